@@ -1,0 +1,2 @@
+pub mod OfCounts
+pub mod Samples
