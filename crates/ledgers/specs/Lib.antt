@@ -1,0 +1,6 @@
+pub mod Tables
+pub mod TableLaws
+pub mod Meaning
+pub mod Answers
+pub mod Bottoms
+pub mod BottomLaws
