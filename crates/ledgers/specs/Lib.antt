@@ -3,4 +3,5 @@ pub mod TableLaws
 pub mod Meaning
 pub mod Answers
 pub mod Bottoms
+pub mod Rows
 pub mod BottomLaws

@@ -1,5 +1,9 @@
 //! Ledgers of reference counts: what a ledger means, and the bottom ledger, which keeps a count for each cell.
+mod bottom;
 mod ledger;
+mod rows;
 
+pub use bottom::Bottom;
+pub use bottom::BottomLedger;
 pub use ledger::Ledger;
 pub use ledger::TooManyCells;
