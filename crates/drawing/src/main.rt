@@ -6,6 +6,7 @@ use counts::StickyCount;
 use counts::Tally;
 use counts::TallyCount;
 use parts::Drawing;
+use parts::ReadErrorError;
 use parts::count_references;
 use std::error::AnyError;
 use std::fmt;
