@@ -5,6 +5,7 @@ ghost use Rattle.std.specs.Of.Vec.{vec-len, vec-items};
 ghost use Rattle.std.specs.shelf.Lists.{countBy};
 
 mod describe;
+mod views;
 
 /// The parts that descriptions name, and what their slots contain.
 #[derive(Drop)]

@@ -34,34 +34,6 @@ impl<'a> Drawing<'a> {
         }
     }
 
-    /// The parts' names: part c has that at c - 1.
-    pub fn names(&self) -> &[&'a [u8]]
-        ensures { λ r. ⌜ now r ≡ vec-items (now (self .entry) .names) ⌝ }
-    {
-        self.names.as_slice()
-    }
-
-    /// What the slots contain: slot f of part c is at 4 * (c - 1) + f.
-    pub fn slots(&self) -> &[u16]
-        ensures { λ r. ⌜ now r ≡ vec-items (now (self .entry) .slots) ⌝ }
-    {
-        self.slots.as_slice()
-    }
-
-    /// How many descriptions there were.
-    pub fn lines(&self) -> usize
-        ensures { λ r. ⌜ r ≡ now (self .entry) .lines ⌝ }
-    {
-        self.lines
-    }
-
-    /// How many references they made.
-    pub fn references(&self) -> usize
-        ensures { λ r. ⌜ r ≡ now (self .entry) .references ⌝ }
-    {
-        self.references
-    }
-
     // One more description: the name of a part, and the names of those that it points to.
     pub(crate) fn describe(&mut self, words: &[&'a [u8]]) -> Result<(), DescribeError>
         requires some { ⌜ 0 < length (now words) ⌝ }
