@@ -11,7 +11,7 @@ use Rattle.counts.specs.Counting.{raised, lowered, set-to}
 use Rattle.ledgers.specs.Bottoms.{more as one-more, Counts, room, Right, cleared, less, moved, In-range, Bottom-agrees, Becomes, Bottom-clears, Bottom-notes, Bottom-recounts, bottom-ops}
 use Rattle.ledgers.specs.Meaning.{Lawful, Told, Emptied, none, more, SameShape}
 use Rattle.ledgers.specs.Meaning as meaning
-use Rattle.ledgers.specs.TableLaws.{hit, hit-yes, hit-no, holders-set, holders-empty, table-empty, table-set}
+use Rattle.ledgers.specs.TableLaws.{decide-range, hit, hit-yes, hit-no, holders-set, holders-empty, table-empty, table-set}
 use Rattle.ledgers.specs.Tables.{Table, holders, Cell}
 use Rattle.std.proofs.shelf.Lists.{length-set, length-append, length-drop, length-replicate, getD-set-same, getD-set-other, set-getD, getD-replicate, getD-append-left, set-past}
 use Rattle.std.proofs.shelf.Sums.{sumBy-set, countBy-le-length}
@@ -83,19 +83,6 @@ right-moved ceiling n s old new v t fits ok slot within was apart right c cell =
     (subst (Right ceiling n (getD v c None)) (sym same) (right c cell)))
     (cases-eq c old))
     (cases-eq c new)
-
-decide-range : (n s old new : ℕ) → In-range n s old new ⊎ (In-range n s old new → ⊥)
-decide-range n s old new =
-    ⊎-elim
-    (λ (slot : s < 4 * n). ⊎-elim
-    (λ (out : n < old). inr (λ range. let le = range .1 in omega arith))
-    (λ (was : old ≤ n). ⊎-elim
-    (λ (out : n < new). inr (λ range. let le = range .2 in omega arith))
-    (λ (is : new ≤ n). inl (slot, was, is))
-    (cases-lt n new))
-    (cases-lt n old))
-    (λ (out : 4 * n ≤ s). inr (λ range. let lt = range .0 in omega arith))
-    (cases-lt s (4 * n))
 
 abbrev Some-number : Option ℕ → Type 0
 Some-number x = (m : ℕ) × (x ≡ Some m)

@@ -1,7 +1,7 @@
 -- Laws of tables and holders. Nothing in this file has to be believed: it is checked proof.
 use mathlib.Core.Bool.{cond}
 use mathlib.Core.List.{List}
-use mathlib.Core.Logic.{⊎-elim}
+use mathlib.Core.Logic.{_⊎_, inl, inr, ⊎-elim}
 use mathlib.Core.Path.{_≡_, refl, sym, ap, subst, _∙_}
 use Prim.Native.Nat.{ℕ, zero, suc, _+_, _*_, _≤_, _<_}
 use native.Mathlib.Omega.{arith}
@@ -54,3 +54,17 @@ table-set n s x t ok le = record {
       (λ (ne : i ≡ s → ⊥). subst (λ (y : ℕ). y ≤ n) (sym (getD-set-other t s i x 0 ne)) (ok .contents i))
       (cases-eq i s);
 }
+
+-- whether a note is in range is decided
+pub decide-range : (n s old new : ℕ) → ((s < 4 * n) × (old ≤ n) × (new ≤ n)) ⊎ ((s < 4 * n) × (old ≤ n) × (new ≤ n) → ⊥)
+decide-range n s old new =
+    ⊎-elim
+    (λ (slot : s < 4 * n). ⊎-elim
+    (λ (out : n < old). inr (λ range. let le = range .1 in omega arith))
+    (λ (was : old ≤ n). ⊎-elim
+    (λ (out : n < new). inr (λ range. let le = range .2 in omega arith))
+    (λ (is : new ≤ n). inl (slot, was, is))
+    (cases-lt n new))
+    (cases-lt n old))
+    (λ (out : 4 * n ≤ s). inr (λ range. let lt = range .0 in omega arith))
+    (cases-lt s (4 * n))

@@ -17,7 +17,7 @@ fn place(c: u16, len: usize) -> Option<usize>
     if i < len { Some(i) } else { None }
 }
 
-pub fn read<K: Count>(rows: &[K::Row], c: u16) -> Option<u16>
+pub(crate) fn read<K: Count>(rows: &[K::Row], c: u16) -> Option<u16>
     ensures { λ r. ⌜ r ≡ getD (counts-of (K·Count .reads) (now (rows .entry))) c None ⌝ }
 {
     let Some(i) = place(c, rows.len()) else {
@@ -27,7 +27,7 @@ pub fn read<K: Count>(rows: &[K::Row], c: u16) -> Option<u16>
 }
 
 // The first cell from `c` to `n` of which 0 is told.
-pub fn first_zero<K: Count>(rows: &[K::Row], c: u16, n: u16) -> Option<u16>
+pub(crate) fn first_zero<K: Count>(rows: &[K::Row], c: u16, n: u16) -> Option<u16>
     ensures { λ r. ⌜ FirstZero (counts-of (K·Count .reads) (now (rows .entry))) c n r ⌝ }
 {
     for d in c.max(1)..=n {
@@ -38,7 +38,7 @@ pub fn first_zero<K: Count>(rows: &[K::Row], c: u16, n: u16) -> Option<u16>
     None
 }
 
-pub fn lower<K: Count>(rows: &mut [K::Row], c: u16)
+pub(crate) fn lower<K: Count>(rows: &mut [K::Row], c: u16)
     ensures { λ _. ⌜ counts-of (K·Count .reads) (now (rows .exit)) ≡ less c (counts-of (K·Count .reads) (now (rows .entry))) ⌝ }
 {
     if let Some(i) = place(c, rows.len()) {
@@ -46,7 +46,7 @@ pub fn lower<K: Count>(rows: &mut [K::Row], c: u16)
     }
 }
 
-pub fn raise<K: Count>(rows: &mut [K::Row], c: u16)
+pub(crate) fn raise<K: Count>(rows: &mut [K::Row], c: u16)
     ensures { λ _. ⌜ counts-of (K·Count .reads) (now (rows .exit)) ≡ more (K·Count .ceiling) c (counts-of (K·Count .reads) (now (rows .entry))) ⌝ }
 {
     if let Some(i) = place(c, rows.len()) {
@@ -54,7 +54,7 @@ pub fn raise<K: Count>(rows: &mut [K::Row], c: u16)
     }
 }
 
-pub fn write<K: Count>(rows: &mut [K::Row], c: u16, m: u16)
+pub(crate) fn write<K: Count>(rows: &mut [K::Row], c: u16, m: u16)
     requires { ⌜ 1 ≤ c ⌝ }
     ensures { λ _. ⌜ counts-of (K·Count .reads) (now (rows .exit)) ≡ set (counts-of (K·Count .reads) (now (rows .entry))) c (set-to (K·Count .ceiling) m) ⌝ }
 {
@@ -64,7 +64,7 @@ pub fn write<K: Count>(rows: &mut [K::Row], c: u16, m: u16)
 }
 
 // Makes the first `n` counts new.
-pub fn renew<K: Count>(rows: &mut [K::Row], n: usize)
+pub(crate) fn renew<K: Count>(rows: &mut [K::Row], n: usize)
     requires { ⌜ n ≤ length (now rows) ⌝ }
     ensures { λ _. ⌜ map (K·Count .reads) (now (rows .exit)) ≡ replicate n (Some 0) ++ drop n (map (K·Count .reads) (now (rows .entry))) ⌝ }
 {
