@@ -2,8 +2,10 @@
 mod bottom;
 mod ledger;
 mod rows;
+mod theorem;
 
 pub use bottom::Bottom;
 pub use bottom::BottomLedger;
 pub use ledger::Ledger;
 pub use ledger::TooManyCells;
+pub use theorem::bottom_ceiling;

@@ -11,13 +11,13 @@ pub struct Note {
 /// The notes that wait, the oldest first, in the first `len` places.
 #[derive(Drop)]
 pub struct Notes {
-    pub at: [Note; 64],
-    pub len: usize,
+    pub(crate) at: [Note; 64],
+    pub(crate) len: usize,
 }
 
 /// A ledger that holds up to 64 notes back from the one below.
 #[derive(Drop)]
 pub struct Queue<L> {
-    pub below: L,
-    pub inner: Notes,
+    pub(crate) below: L,
+    pub(crate) inner: Notes,
 }

@@ -1,0 +1,2 @@
+pub mod ZeroTables
+pub mod ZeroLaws
