@@ -1,2 +1,3 @@
 pub mod OfCounts
+pub mod OfLedgers
 pub mod Samples
