@@ -8,4 +8,7 @@ pub use bottom::Bottom;
 pub use bottom::BottomLedger;
 pub use ledger::Ledger;
 pub use ledger::TooManyCells;
+pub use ledger::TooManyCellsDebug;
+pub use ledger::TooManyCellsEq;
+pub use ledger::TooManyCellsPartialEq;
 pub use theorem::bottom_ceiling;
