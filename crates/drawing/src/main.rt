@@ -1,13 +1,19 @@
-//! Reads a drawing from standard input, counts the references to each part, and prints what it found.
+//! Reads a drawing and edits of it from standard input, keeps its references through a stack of ledgers, and prints what it found.
 use counts::Exact;
 use counts::ExactCount;
+use counts::ExactRow;
 use counts::Sticky;
 use counts::StickyCount;
+use counts::StickyRow;
 use counts::Tally;
 use counts::TallyCount;
+use counts::TallyRow;
 use parts::Drawing;
+use parts::Edit;
 use parts::ReadErrorError;
-use parts::count_references;
+use replay::ReplayErrorError;
+use replay::Replayed;
+use replay::keep;
 use std::error::AnyError;
 use std::fmt;
 use std::io::Read;
@@ -26,29 +32,36 @@ impl fmt::Display for Answer as AnswerDisplay {
     }
 }
 
-// Everything that can be refused is done before the first line is printed.
-fn run(rt: &LibcRuntime) -> Result<(), AnyError> {
-    let heap = rt.alloc();
-    let mut text = Vec::new(heap);
-    rt.stdin().read_to_end(&mut text)?;
-    let drawing = parts::read(heap, text.as_slice())?;
-    print(rt, &drawing)
+/// What the references of a drawing came to, by each kind of count.
+#[derive(Drop)]
+struct Answers {
+    exact: Replayed,
+    sticky: Replayed,
+    tally: Replayed,
 }
 
-fn print(rt: &LibcRuntime, drawing: &Drawing<'_>) -> Result<(), AnyError> {
+fn count(rt: &LibcRuntime, drawing: &Drawing<'_>, edits: &[Edit]) -> Result<Answers, AnyError> {
     let heap = rt.alloc();
-    let names = drawing.names();
-    let parts = names.len();
-    let exact = count_references::<Exact>(heap, drawing.slots(), parts)?;
-    let sticky = count_references::<Sticky>(heap, drawing.slots(), parts)?;
-    let tally = count_references::<Tally>(heap, drawing.slots(), parts)?;
+    let parts = drawing.names().len();
+    let slots = drawing.slots();
+    let mut exact_rows = vec![in heap; ExactRow { value: 0 }; parts]?;
+    let mut sticky_rows = vec![in heap; StickyRow { value: 0 }; parts]?;
+    let mut tally_rows = vec![in heap; TallyRow { ones: 0 }; parts]?;
+    Ok(Answers {
+        exact: keep::<Exact>(heap, &mut exact_rows, slots, edits)?,
+        sticky: keep::<Sticky>(heap, &mut sticky_rows, slots, edits)?,
+        tally: keep::<Tally>(heap, &mut tally_rows, slots, edits)?,
+    })
+}
 
+// A line for each part, then the parts that nobody points to.
+fn print_parts(rt: &LibcRuntime, drawing: &Drawing<'_>, answers: &Answers) -> Result<(), AnyError> {
+    let names = drawing.names();
+    let exact = answers.exact.numbers.iter();
+    let sticky = answers.sticky.numbers.iter();
+    let tally = answers.tally.numbers.iter();
     println!(rt, "part: exact, sticky, tally")?;
-    for (((name, exact), sticky), tally) in names
-        .iter()
-        .zip(exact.iter())
-        .zip(sticky.iter())
-        .zip(tally.iter()) {
+    for (((name, exact), sticky), tally) in names.iter().zip(exact).zip(sticky).zip(tally) {
         let name = str::from_utf8(name)?;
         println!(
             rt,
@@ -59,17 +72,31 @@ fn print(rt: &LibcRuntime, drawing: &Drawing<'_>) -> Result<(), AnyError> {
         )?;
     }
     println!(rt, "nobody points to:")?;
-    for (name, exact) in names.iter().zip(exact.iter()) {
-        if *exact == Some(0) {
-            let name = str::from_utf8(name)?;
-            println!(rt, "{name}")?;
+    for part in answers.exact.zeros.iter() {
+        if let Some(name) = names.get((*part as usize).wrapping_sub(1)) {
+            println!(rt, "{}", str::from_utf8(name)?)?;
         }
     }
+    Ok(())
+}
+
+// Everything that can be refused is done before the first line is printed.
+fn run(rt: &LibcRuntime) -> Result<(), AnyError> {
+    let heap = rt.alloc();
+    let mut text = Vec::new(heap);
+    rt.stdin().read_to_end(&mut text)?;
+    let drawing = parts::read(heap, text.as_slice())?;
+    let edits = parts::read_edits(heap, text.as_slice(), &drawing)?;
+    let answers = count(rt, &drawing, edits.as_slice())?;
+    println!(rt, "waiting before settle: {}", answers.exact.waiting)?;
+    print_parts(rt, &drawing, &answers)?;
     let lines = drawing.lines();
+    let parts = drawing.names().len();
     let references = drawing.references();
+    let edits = edits.len();
     println!(
         rt,
-        "completed: {lines} lines, {parts} parts, {references} references"
+        "completed: {lines} lines, {parts} parts, {references} references, {edits} edits"
     )?;
     Ok(())
 }

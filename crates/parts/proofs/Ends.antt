@@ -21,8 +21,8 @@ use Rattle.parts.specs.Drawn.{subject, mentions, firsts, Called, content}
 use Rattle.parts.specs.Faults.{any, long, unprintable, fault-of}
 use Rattle.parts.specs.Text.{Bytes}
 use Rattle.parts.specs.declared.drawing.Drawing.{Drawing}
-use Rattle.parts.specs.declared.fault.DescribeError.{DescribeError}
-use Rattle.parts.specs.declared.fault.DescribeError.the-variants.{Wrong, Memory}
+use Rattle.parts.specs.declared.fault.LineError.{LineError}
+use Rattle.parts.specs.declared.fault.LineError.the-variants.{Wrong, Memory}
 use Rattle.parts.specs.declared.fault.Fault.{Fault}
 use Rattle.parts.specs.declared.fault.Fault.the-variants.{DescribedTwice, TooManyParts}
 use Rattle.parts.proofs.Filling.{grown-then, called-grown}
@@ -31,7 +31,7 @@ use Rattle.parts.proofs.Growing.{parts, marks, spaces}
 use Rattle.parts.proofs.Steps.{Step, about-unknown, drawn-more, subjects-more, within-more, told-more}
 
 -- a description, by other words for its words
-pub described-as : (ds : List (List Bytes)) (ws vs : List Bytes) (after : Drawing) (r : Result (Unit {0}) DescribeError) → ws ≡ vs → Described ds vs after r → Described ds ws after r
+pub described-as : (ds : List (List Bytes)) (ws vs : List Bytes) (after : Drawing) (r : Result (Unit {0}) LineError) → ws ≡ vs → Described ds vs after r → Described ds ws after r
 described-as ds ws vs after r e h = subst (λ l. Described ds l after r) (sym e) h
 
 none-first : (a b c : Bool) (x y z : Fault) → cond a (Some x) (cond b (Some y) (cond c (Some z) None)) ≡ None → (a ≡ false) × (b ≡ false) × (c ≡ false)
@@ -68,7 +68,7 @@ module _ {ds : List (List Bytes)} {before : Drawing} (b : Building ds before) (w
 about-mark : {ds : List (List Bytes)} {d : Drawing} → Building ds d → (c : ℕ) (w : Bytes) → Called (known d) c w → about w ds ≡ mark d c
 about-mark {ds} b c w h = ap (λ v. about v ds) (sym (h .2)) ∙ sym (b .told (c - 1) (omega (arith, h .0, h .1)))
 
-pub described-unfit : {ds : List (List Bytes)} {before : Drawing} (b : Building ds before) (w : Bytes) (rest : List Bytes) → fault-in (w ∷ rest) ≡ None → (after : Drawing) (e : DescribeError) → Unfit w before e → Described ds (w ∷ rest) after (Err e)
+pub described-unfit : {ds : List (List Bytes)} {before : Drawing} (b : Building ds before) (w : Bytes) (rest : List Bytes) → fault-in (w ∷ rest) ≡ None → (after : Drawing) (e : LineError) → Unfit w before e → Described ds (w ∷ rest) after (Err e)
 described-unfit b w rest fine after Memory h = tt
 described-unfit {ds} {before} b w rest fine after (Wrong e) h =
     ⊎-elim
@@ -115,7 +115,7 @@ module _ {ds : List (List Bytes)} {before mid : Drawing} {w : Bytes} {part : ℕ
       (λ f. about-unknown (known before) w ds (b .subjects) (λ was. true≢false (sym (among-decides (known before) w .1 was) ∙ f)))
       (cases-bool (any (λ v. sameBytes v w) (known before)))
 
-  pub described-crowded : (after : Drawing) (e : DescribeError) → Crowded rest mid e → Described ds (w ∷ rest) after (Err e)
+  pub described-crowded : (after : Drawing) (e : LineError) → Crowded rest mid e → Described ds (w ∷ rest) after (Err e)
   described-crowded after Memory h = tt
   described-crowded after (Wrong e) h =
       let more : 1024 < length (folded added (known before) (w ∷ rest)) = omega (arith, h .1, ap (λ l. length (folded added l rest)) (num .grown .named)) in

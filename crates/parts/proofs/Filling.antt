@@ -14,8 +14,8 @@ use Rattle.parts.specs.Building.{known, added, Grown, Numbered, Filled, Crowde
 use Rattle.parts.specs.Drawn.{Called, content}
 use Rattle.parts.specs.Text.{Bytes}
 use Rattle.parts.specs.declared.drawing.Drawing.{Drawing}
-use Rattle.parts.specs.declared.fault.DescribeError.{DescribeError}
-use Rattle.parts.specs.declared.fault.DescribeError.the-variants.{Wrong, Memory}
+use Rattle.parts.specs.declared.fault.LineError.{LineError}
+use Rattle.parts.specs.declared.fault.LineError.the-variants.{Wrong, Memory}
 use Rattle.parts.proofs.Firsts.{folded-append, folded-long, folded-take, called-as, called-folded}
 use Rattle.parts.proofs.Growing.{spaces}
 
@@ -50,7 +50,7 @@ pub called-grown : {ws : List Bytes} {before after : Drawing} → Grown ws befor
 called-grown {ws} {before} g c w h = subst (λ l. Called l c w) (sym (g .named)) (called-folded (known before) ws c w h)
 
 -- too many names up to one of a line's are too many names of the line
-pub crowded-more : (ws : List Bytes) (i : ℕ) (before mid : Drawing) (e : DescribeError) → i < length ws → Grown (take i ws) before mid → Crowded (getD ws i [] ∷ []) mid e → Crowded ws before e
+pub crowded-more : (ws : List Bytes) (i : ℕ) (before mid : Drawing) (e : LineError) → i < length ws → Grown (take i ws) before mid → Crowded (getD ws i [] ∷ []) mid e → Crowded ws before e
 crowded-more ws i before mid (Wrong f) h old over =
     let w = getD ws i [] in
     let whole : folded added (known mid) (w ∷ []) ≡ folded added (known before) (take (i + 1) ws) =

@@ -13,8 +13,8 @@ use Rattle.parts.specs.Faults.{fault-of}
 use Rattle.parts.specs.Reads.{described, fault-after, Taken}
 use Rattle.parts.specs.Text.{Bytes, words}
 use Rattle.parts.specs.declared.drawing.Drawing.{Drawing}
-use Rattle.parts.specs.declared.fault.DescribeError.{DescribeError}
-use Rattle.parts.specs.declared.fault.DescribeError.the-variants.{Wrong, Memory}
+use Rattle.parts.specs.declared.fault.LineError.{LineError}
+use Rattle.parts.specs.declared.fault.LineError.the-variants.{Wrong, Memory}
 
 module _ (ws : List Bytes) (e : passed ws ≡ true) where
   passed-fault : (ds : List (List Bytes)) → fault-after ds ws ≡ None
@@ -31,13 +31,13 @@ module _ (ws : List Bytes) (e : passed ws ≡ false) where
   described-one = ap (λ b. cond (not b) (ws ∷ []) []) e
 
 module _ (ds : List (List Bytes)) (line : Bytes) (d : Drawing) where
-  pub no-memory : (r : Result (Unit {0}) DescribeError) → ErrBy r (λ e. e ≡ Memory) → Taken ds line d r
+  pub no-memory : (r : Result (Unit {0}) LineError) → ErrBy r (λ e. e ≡ Memory) → Taken ds line d r
   no-memory r h = let p = err-from-errBy r h in subst (Taken ds line d) (sym (p .1 ∙ ap Err (p .2))) tt
 
   pub passed-line : passed (words line) ≡ true → Building ds d → Taken ds line d (Ok tt)
   passed-line e h = (passed-fault (words line) e ds, subst (λ l. Building l d) (sym (ap (λ l. ds ++ l) (passed-none (words line) e) ∙ append-nil ds)) h)
 
-  pub described-line : (r : Result (Unit {0}) DescribeError) → passed (words line) ≡ false → Described ds (words line) d r → Taken ds line d r
+  pub described-line : (r : Result (Unit {0}) LineError) → passed (words line) ≡ false → Described ds (words line) d r → Taken ds line d r
   described-line (Ok _) e h = (described-fault (words line) e ds ∙ h .0, subst (λ l. Building (ds ++ l) d) (sym (described-one (words line) e)) (h .1))
   described-line (Err (Wrong f)) e h = described-fault (words line) e ds ∙ h
   described-line (Err Memory) e h = tt

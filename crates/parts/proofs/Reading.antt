@@ -22,8 +22,8 @@ use Rattle.parts.specs.Reads.{described, fault-after, Taken, Complete, Reads}
 use Rattle.parts.specs.Separators.{Whole, Parted, Cut}
 use Rattle.parts.specs.Text.{Bytes, newline, lines, words}
 use Rattle.parts.specs.declared.drawing.Drawing.{Drawing}
-use Rattle.parts.specs.declared.fault.DescribeError.{DescribeError}
-use Rattle.parts.specs.declared.fault.DescribeError.the-variants.{Wrong, Memory}
+use Rattle.parts.specs.declared.fault.LineError.{LineError}
+use Rattle.parts.specs.declared.fault.LineError.the-variants.{Wrong, Memory}
 use Rattle.parts.specs.declared.fault.Fault.{Fault}
 
 -- The first j lines of the text are done, and rest is what is left of it.
@@ -37,12 +37,12 @@ pub none-done : (text : Bytes) (d : Drawing) → Building [] d → Sofar text te
 none-done text d h = record { left = refl; sound = λ i l. absurd (omega arith); built = h; room = omega arith }
 
 -- What is left of a list, beginning with x.
-record Next {X : Type 0} (xs : List X) (j : ℕ) (x : X) (more : List X) : Type 0 where
-  within : j < length xs
-  here : (d : X) → getD xs j d ≡ x
-  after : drop (j + 1) xs ≡ more
+pub record Next {X : Type 0} (xs : List X) (j : ℕ) (x : X) (more : List X) : Type 0 where
+  pub within : j < length xs
+  pub here : (d : X) → getD xs j d ≡ x
+  pub after : drop (j + 1) xs ≡ more
 
-next : {X : Type 0} (xs : List X) (j : ℕ) (x : X) (more : List X) → drop j xs ≡ x ∷ more → Next xs j x more
+pub next : {X : Type 0} (xs : List X) (j : ℕ) (x : X) (more : List X) → drop j xs ≡ x ∷ more → Next xs j x more
 next xs j x more e =
     let lt : j < length xs = omega (arith, sym (length-drop j xs) ∙ ap length e) in
     record {
@@ -59,7 +59,7 @@ fault-here : (ls : List Bytes) (j : ℕ) (line : Bytes) → getD ls j [] ≡ lin
 fault-here ls j line here = ap (λ l. fault-after (descriptions (take j ls)) (words l)) here
 
 -- The lines that are left begin with the one that was cut off.
-first-line : (rest line : Bytes) (more : Option (RefT Bytes)) → Cut newline rest line more → (tail : List Bytes) × (lines rest ≡ line ∷ tail)
+pub first-line : (rest line : Bytes) (more : Option (RefT Bytes)) → Cut newline rest line more → (tail : List Bytes) × (lines rest ≡ line ∷ tail)
 first-line rest line None h = ([], h .cut)
 first-line rest line (Some below) h = (lines (below .now), h .cut)
 
@@ -76,7 +76,7 @@ module _ (text rest line : Bytes) (j : ℕ) (d : Drawing) (sofar : Sofar text re
         before = subst (Sound (lines text)) (sym back) (sofar .sound);
       }
 
-  pub stopped : (more : Option (RefT Bytes)) → Cut newline rest line more → (d′ : Drawing) (e : DescribeError) → Taken (descriptions (take j (lines text))) line d′ (Err e) → Reads text (Err (at-line (j + 1) e))
+  pub stopped : (more : Option (RefT Bytes)) → Cut newline rest line more → (d′ : Drawing) (e : LineError) → Taken (descriptions (take j (lines text))) line d′ (Err e) → Reads text (Err (at-line (j + 1) e))
   stopped more cut d′ (Wrong e) told = faulty more cut e told
   stopped more cut d′ Memory told = tt
 

@@ -18,8 +18,8 @@ use Rattle.parts.specs.Text.{Bytes}
 use Rattle.parts.specs.Drawn.{subject, references, Called, content, Drawn}
 use Rattle.parts.specs.Faults.{any, long, unprintable, check, first-fault, fault-of}
 use Rattle.parts.specs.declared.drawing.Drawing.{Drawing}
-use Rattle.parts.specs.declared.fault.DescribeError.{DescribeError}
-use Rattle.parts.specs.declared.fault.DescribeError.the-variants.{Wrong, Memory}
+use Rattle.parts.specs.declared.fault.LineError.{LineError}
+use Rattle.parts.specs.declared.fault.LineError.the-variants.{Wrong, Memory}
 use Rattle.parts.specs.declared.fault.Fault.{Fault}
 use Rattle.parts.specs.declared.fault.Fault.the-variants.{TooManyReferences, NameTooLong, NameNotPrintable, DescribedTwice, TooManyParts}
 
@@ -51,7 +51,7 @@ pub record Building (ds : List (List Bytes)) (d : Drawing) : Type 0 where
   pub within : (i : ℕ) → getD (vec-items (d .slots)) i 0 ≤ length (known d)
 
 -- What a description leads to.
-abbrev pub Described : List (List Bytes) → List Bytes → Drawing → Result (Unit {0}) DescribeError → Type 0
+abbrev pub Described : List (List Bytes) → List Bytes → Drawing → Result (Unit {0}) LineError → Type 0
 Described ds ws after (Ok _) = (fault-of ds ws ≡ None) × Building (ds ++ ws ∷ []) after
 Described ds ws after (Err (Wrong e)) = fault-of ds ws ≡ Some e
 Described ds ws after (Err Memory) = Unit {0}
@@ -80,12 +80,12 @@ abbrev pub mark : Drawing → ℕ → Bool
 mark d c = getD (vec-items (d .described)) (c - 1) false
 
 -- Names are refused only where the parts would be more than 1,024.
-abbrev pub Crowded : List Bytes → Drawing → DescribeError → Type 0
+abbrev pub Crowded : List Bytes → Drawing → LineError → Type 0
 Crowded ws before (Wrong e) = (e ≡ TooManyParts) × (1024 < length (folded added (known before) ws))
 Crowded ws before Memory = Unit {0}
 
 -- The subject of a description is refused as well if it is described already.
-abbrev pub Unfit : Bytes → Drawing → DescribeError → Type 0
+abbrev pub Unfit : Bytes → Drawing → LineError → Type 0
 Unfit w before (Wrong e) =
     ((e ≡ DescribedTwice) × ((c : ℕ) × Called (known before) c w × (mark before c ≡ true))) ⊎ Crowded (w ∷ []) before (Wrong e)
 Unfit w before Memory = Unit {0}

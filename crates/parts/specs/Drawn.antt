@@ -1,9 +1,10 @@
 -- What a drawing's text says: its parts by name, and which part points to which.
-use mathlib.Core.Bool.{Bool, true, not}
+use mathlib.Core.Bool.{Bool, true, not, _||_, _&&_}
 use mathlib.Core.List.{List, [], _∷_, map}
 use mathlib.Core.Logic.{_≢_}
 use mathlib.Core.Path.{_≡_}
 use Prim.Native.Nat.{ℕ, _+_, _-_, _*_, _≤_, _<_}
+use lib.Chars.{codes}
 use lib.Dec.{eqb}
 use lib.ListN.{length, getD}
 use Rattle.std.specs.shelf.Lists.{All, joined, kept-by, sumBy}
@@ -11,9 +12,17 @@ use Rattle.std.specs.shelf.Text.{sameBytes}
 use Rattle.parts.specs.Text.{Bytes, words}
 
 -- A line is passed over if it has no word, or if its first word begins with '#'.
+abbrev pub idle : List Bytes → Bool
+idle [] = true
+idle (w ∷ ws) = eqb (getD w 0 0) 35
+
+-- A line that is not passed over is an edit if its second word is '='.
+abbrev pub is-edit : List Bytes → Bool
+is-edit ws = not (idle ws) && sameBytes (getD ws 1 []) (codes "=")
+
+-- What describes no part: a line that is passed over, and an edit.
 abbrev pub passed : List Bytes → Bool
-passed [] = true
-passed (w ∷ ws) = eqb (getD w 0 0) 35
+passed ws = idle ws || is-edit ws
 
 -- Each other line describes a part: its words are the part's name and then the names of the parts that it points to.
 abbrev pub descriptions : List Bytes → List (List Bytes)

@@ -51,7 +51,7 @@ fault-of before ws = first-fault (
     ∷ check (ltb 1024 (length (firsts (mentions (before ++ ws ∷ []))))) TooManyParts
     ∷ [])
 
--- What is wrong with line j of a text, from 0, after the lines above it.
+-- What is wrong with line j of a text, from 0, after the lines above it: only a description can have such a fault.
 abbrev pub fault-at : List Bytes → ℕ → Option Fault
 fault-at ls j = cond (passed (words (getD ls j []))) None (fault-of (descriptions (take j ls)) (words (getD ls j [])))
 

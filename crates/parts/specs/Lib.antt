@@ -1,9 +1,9 @@
 pub mod Text
 pub mod Drawn
 pub mod Faults
+pub mod Edits
 pub mod Separators
 pub mod Errors
 pub mod Messages
 pub mod Building
 pub mod Reads
-pub mod Counted

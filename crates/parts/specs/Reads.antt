@@ -13,8 +13,8 @@ use Rattle.parts.specs.Drawn.{Drawn, passed, descriptions, references}
 use Rattle.parts.specs.Faults.{fault-of, Sound, Faulty}
 use Rattle.parts.specs.Text.{Bytes, lines, words}
 use Rattle.parts.specs.declared.drawing.Drawing.{Drawing}
-use Rattle.parts.specs.declared.fault.DescribeError.{DescribeError}
-use Rattle.parts.specs.declared.fault.DescribeError.the-variants.{Wrong, Memory}
+use Rattle.parts.specs.declared.fault.LineError.{LineError}
+use Rattle.parts.specs.declared.fault.LineError.the-variants.{Wrong, Memory}
 use Rattle.parts.specs.declared.fault.Fault.{Fault}
 use Rattle.parts.specs.declared.fault.ReadError.{ReadError}
 use Rattle.parts.specs.declared.fault.ReadError.the-variants.{Wrong as WrongLine, Memory as NoMemory}
@@ -28,12 +28,12 @@ abbrev pub fault-after : List (List Bytes) → List Bytes → Option Fault
 fault-after ds ws = cond (passed ws) None (fault-of ds ws)
 
 -- A drawing after one more line.
-abbrev pub Taken : List (List Bytes) → Bytes → Drawing → Result (Unit {0}) DescribeError → Type 0
+abbrev pub Taken : List (List Bytes) → Bytes → Drawing → Result (Unit {0}) LineError → Type 0
 Taken ds line after (Ok _) = (fault-after ds (words line) ≡ None) × Building (ds ++ described (words line)) after
 Taken ds line after (Err (Wrong e)) = fault-after ds (words line) ≡ Some e
 Taken ds line after (Err Memory) = Unit {0}
 
--- No line has a fault, and the drawing is what the lines describe.
+-- No description has a fault, and the drawing is what the lines describe.
 pub record Complete (text : Bytes) (d : Drawing) : Type 0 where
   pub sound : Sound (lines text) (length (lines text))
   pub drawn : Drawn (descriptions (lines text)) (map (λ w. w .now) (vec-items (d .names))) (vec-items (d .slots))

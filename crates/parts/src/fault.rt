@@ -2,7 +2,7 @@
 ghost use mathlib.Core.Path.{_≡_};
 ghost use Rattle.parts.specs.Errors.{at-line};
 ghost use Rattle.parts.specs.Messages.{sentence, report};
-ghost use Rattle.parts.specs.declared.fault.DescribeError.the-variants.{Memory};
+ghost use Rattle.parts.specs.declared.fault.LineError.the-variants.{Memory};
 ghost use Rattle.std.specs.declared.option.Option.the-variants.{Some};
 use std::alloc::AllocError;
 use std::error::Error;
@@ -16,6 +16,8 @@ pub enum Fault {
     NameNotPrintable,
     DescribedTwice,
     TooManyParts,
+    BadEdit,
+    UnknownPart,
 }
 
 impl Fault {
@@ -28,6 +30,8 @@ impl Fault {
             Fault::NameNotPrintable => "a name is not printable ASCII",
             Fault::DescribedTwice => "this part is described already",
             Fault::TooManyParts => "more than 1,024 parts",
+            Fault::BadEdit => "an edit reads part.slot = other, with a slot from 0 to 3",
+            Fault::UnknownPart => "no such part in this drawing",
         }
     }
 }
@@ -40,34 +44,34 @@ pub impl fmt::Display for Fault as FaultDisplay {
     }
 }
 
-/// Why a description was not taken.
+/// Why a line was not taken.
 #[derive(Clone, Copy, Debug, PartialEq, Eq)]
-pub(crate) enum DescribeError {
+pub(crate) enum LineError {
     Wrong(Fault),
     Memory,
 }
 
-impl DescribeError {
+impl LineError {
     // The error of the text whose line this is.
     pub(crate) fn at_line(self, line: usize) -> ReadError
         ensures { λ r. ⌜ r ≡ at-line line self ⌝ }
     {
         match self {
-            DescribeError::Wrong(fault) => ReadError::Wrong { line, fault },
-            DescribeError::Memory => ReadError::Memory,
+            LineError::Wrong(fault) => ReadError::Wrong { line, fault },
+            LineError::Memory => ReadError::Memory,
         }
     }
 }
 
-pub(crate) impl From<AllocError> for DescribeError as DescribeErrorFromAlloc {
+pub(crate) impl From<AllocError> for LineError as LineErrorFromAlloc {
     ghost converts = { λ _ r. r ≡ Memory };
 
-    fn from(_: AllocError) -> DescribeError {
-        DescribeError::Memory
+    fn from(_: AllocError) -> LineError {
+        LineError::Memory
     }
 }
 
-/// Why a text gave no drawing.
+/// Why a text gave no drawing, or no edits.
 #[derive(Clone, Copy, Debug, PartialEq, Eq)]
 pub enum ReadError {
     /// The first line with a fault, counted from 1.

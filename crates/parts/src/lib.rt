@@ -1,13 +1,18 @@
-//! Drawings as text: the parts by name, and which part points to which.
-mod counting;
+//! Drawings as text: the parts by name, which part points to which, and edits of that.
 mod drawing;
+mod edits;
 mod fault;
+mod kinds;
 mod names;
 mod reader;
 mod text;
 
-pub use counting::count_references;
 pub use drawing::Drawing;
+pub use edits::Edit;
+pub use edits::EditDebug;
+pub use edits::EditEq;
+pub use edits::EditPartialEq;
+pub use edits::read_edits;
 pub use fault::Fault;
 pub use fault::FaultDebug;
 pub use fault::FaultDisplay;

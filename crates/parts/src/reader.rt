@@ -1,35 +1,20 @@
 //! Reading a drawing from its text.
-ghost use mathlib.Core.List.{List, map};
-ghost use mathlib.Core.Path.{_≡_};
+ghost use mathlib.Core.List.{List};
 ghost use Rattle.parts.specs.Building.{Building};
-ghost use Rattle.parts.specs.Drawn.{passed};
 ghost use Rattle.parts.specs.Reads.{Reads, Taken};
 ghost use Rattle.parts.specs.Text.{Bytes};
 use crate::drawing::Drawing;
-use crate::fault::DescribeError;
-use crate::fault::DescribeErrorFromAlloc;
+use crate::fault::LineError;
+use crate::fault::LineErrorFromAlloc;
 use crate::fault::ReadError;
+use crate::kinds::is_passed;
 use crate::text::Separator;
 use crate::text::cut;
 use crate::text::split_words;
 use std::alloc::Global;
 
-// Whether a line of these words describes no part: it is empty, or a comment.
-fn is_passed(words: &[&[u8]]) -> bool
-    ensures { λ r. ⌜ r ≡ passed (map (λ w. w .now) (now (words .entry))) ⌝ }
-{
-    match words {
-        [] => true,
-        [first, ..] => first.starts_with(b"#"),
-    }
-}
-
 // Takes one more line into the drawing.
-fn read_line<'a>(
-    heap: Global,
-    drawing: &mut Drawing<'a>,
-    line: &'a [u8],
-) -> Result<(), DescribeError>
+fn read_line<'a>(heap: Global, drawing: &mut Drawing<'a>, line: &'a [u8]) -> Result<(), LineError>
     ensures { λ r. ⌜ ((ds : List (List Bytes)) → Building ds (now (drawing .entry)) → Taken ds (now (line .entry)) (now (drawing .exit)) r) ⌝ }
 {
     let words = split_words(heap, line)?;
@@ -39,7 +24,7 @@ fn read_line<'a>(
     drawing.describe(&words)
 }
 
-/// The drawing that a text describes, or its first fault.
+/// The drawing that a text describes, or the first fault of a description. Edits are left to `read_edits`.
 pub fn read<'a>(heap: Global, text: &'a [u8]) -> Result<Drawing<'a>, ReadError>
     ensures { λ r. ⌜ Reads (now (text .entry)) r ⌝ }
 {

@@ -1,8 +1,8 @@
 //! What the text of a drawing gives, and every way in which it is refused.
 #[cfg(test)]
 mod tests {
-    use counts::Exact;
-    use counts::ExactCount;
+    use parts::Edit;
+    use parts::EditPartialEq;
     use parts::Fault;
     use parts::FaultDebug;
     use parts::FaultPartialEq;
@@ -10,8 +10,8 @@ mod tests {
     use parts::ReadErrorDebug;
     use parts::ReadErrorDisplay;
     use parts::ReadErrorPartialEq;
-    use parts::count_references;
     use parts::read;
+    use parts::read_edits;
     use std::alloc::Global;
     use std::test::*;
 
@@ -41,12 +41,6 @@ mod tests {
         let drawing = read(rt.alloc(), b"")?;
         check_eq(drawing.names().len(), 0)?;
         check_eq(drawing.lines(), 0)
-    }
-
-    #[test]
-    fn contents_that_are_no_part_are_not_counted(rt: LibcRuntime) -> Result<(), Fail> {
-        let counted = count_references::<Exact>(rt.alloc(), &[0, 2, 3, 2, 65_535], 2)?;
-        check(counted.as_slice() == [Some(0), Some(2)])
     }
 
     #[test]
@@ -117,5 +111,77 @@ mod tests {
         let heap = rt.alloc();
         let said = refusal(heap, b"a b\n\na")?.to_string(heap)?;
         check_eq(said.as_str(), "line 3: this part is described already")
+    }
+
+    fn edits(heap: Global, text: &[u8]) -> Result<Vec<Edit>, Fail> {
+        let drawing = read(heap, text)?;
+        Ok(read_edits(heap, text, &drawing)?)
+    }
+
+    // The error that the edits of a text give, where its descriptions have none.
+    fn edit_refusal(heap: Global, text: &[u8]) -> Result<ReadError, Fail> {
+        let drawing = read(heap, text)?;
+        match read_edits(heap, text, &drawing) {
+            Ok(_) => Err(Fail::new("the edits were taken")),
+            Err(error) => Ok(error),
+        }
+    }
+
+    fn edit(slot: u16, content: u16) -> Edit {
+        Edit { slot, content }
+    }
+
+    #[test]
+    fn edits_name_a_slot_and_a_part_or_none(rt: LibcRuntime) -> Result<(), Fail> {
+        let heap = rt.alloc();
+        let text = b"b.0 = a\na b\n# a.1 = a\na.3 =\nb\na.0\t=  b";
+        check_eq(read(heap, text)?.lines(), 2)?;
+        check(edits(heap, text)?.as_slice() == [edit(4, 1), edit(3, 0), edit(0, 2)])?;
+        check_eq(edits(heap, b"a b\n\nb a")?.len(), 0)
+    }
+
+    #[test]
+    fn a_slot_is_edited_as_often_as_the_text_says(rt: LibcRuntime) -> Result<(), Fail> {
+        let found = edits(rt.alloc(), b"a b\na.2 = b\na.2 =\na.2 = a")?;
+        check(found.as_slice() == [edit(2, 2), edit(2, 0), edit(2, 1)])
+    }
+
+    #[test]
+    fn names_may_hold_dots(rt: LibcRuntime) -> Result<(), Fail> {
+        let found = edits(rt.alloc(), b"a.1 a\na.1.2 = a\na.1 = a.1")?;
+        check(found.as_slice() == [edit(2, 2), edit(5, 1)])
+    }
+
+    #[test]
+    fn an_edit_is_well_formed(rt: LibcRuntime) -> Result<(), Fail> {
+        let heap = rt.alloc();
+        check_eq(edit_refusal(heap, b"a = a\na")?, wrong(1, Fault::BadEdit))?;
+        check_eq(edit_refusal(heap, b"a\na.4 = a")?, wrong(2, Fault::BadEdit))?;
+        check_eq(edit_refusal(heap, b"a\n.0 = a")?, wrong(2, Fault::BadEdit))?;
+        check_eq(
+            edit_refusal(heap, b"a\na.0 =\nx.0 = a a")?,
+            wrong(3, Fault::BadEdit),
+        )
+    }
+
+    #[test]
+    fn an_edit_names_parts_of_the_drawing(rt: LibcRuntime) -> Result<(), Fail> {
+        let heap = rt.alloc();
+        check_eq(
+            edit_refusal(heap, b"a\n\na.0 = b\nb.0 = a")?,
+            wrong(3, Fault::UnknownPart),
+        )?;
+        check_eq(
+            edit_refusal(heap, b"b.0 =\na")?,
+            wrong(1, Fault::UnknownPart),
+        )
+    }
+
+    #[test]
+    fn descriptions_are_refused_before_edits(rt: LibcRuntime) -> Result<(), Fail> {
+        check_eq(
+            refusal(rt.alloc(), b"a.9 = b\na\na")?,
+            wrong(3, Fault::DescribedTwice),
+        )
     }
 }

@@ -8,8 +8,10 @@ use lib.ListN.{length, getD, set, take}
 use Rattle.ledgers.specs.Answers.{First-zero, Numbered}
 use Rattle.ledgers.specs.Meaning.{Ops, Lawful, Settled}
 use Rattle.ledgers.specs.Tables.{Cell, Table}
-use Rattle.replay.specs.Replays.{Bad-content, Bad-edit, Follows, Proper, Right-numbers, Zeros-listed, edited, no-edit}
-use Rattle.replay.specs.declared.replay.Edit.{Edit}
+use Rattle.replay.specs.Replays.{Bad-content, Bad-edit, Follows, Kept, Proper, Replays, Told-numbers, Zeros-listed, edited, no-edit}
+use Rattle.parts.specs.declared.edits.Edit.{Edit}
+use Rattle.replay.specs.declared.replay.Replayed.{Replayed}
+use Rattle.std.specs.Of.Vec.{vec-items}
 use Rattle.std.proofs.shelf.Elements.{all-getD, has-append-left, has-push, has-push-cases}
 use Rattle.std.proofs.shelf.Lists.{getD-append-left, getD-push, length-push, take-more}
 use Rattle.std.proofs.shelf.Tests.{cases-lt}
@@ -39,24 +41,44 @@ module _ {L : Type 0} {o : Ops L} (p : Lawful o) where
     p .settle-settles l l′ t settles (f .agrees),
   )
 
-  -- numbers as the ledger answers them are right
-  pub right-numbers : {n : ℕ} {t : List ℕ} {l : L} (numbers : List (Option ℕ)) → length numbers ≡ n → ((k : ℕ) → k < length numbers → Numbered o l (k + 1) (getD numbers k None)) → Follows o n t l → Settled o l → Right-numbers o t n numbers
-  right-numbers {n} {t} {l} numbers size answers f settled = record {
-    size = size;
-    exact = λ c m cell told. p .exact l t c m settled (f .agrees) (here c cell) (sym (is c cell) ∙ told);
+  -- what is told is known by the table alone
+  pub kept : {n : ℕ} {slots : List ℕ} {edits : List Edit} {l : L} {r : Replayed} → length slots ≡ 4 * n → Replays o n (edited slots edits) l r → Kept (o .ceiling) slots edits r
+  kept {n} {slots} {edits} {l} {r} long replays = record {
+    cells = n;
+    table = long;
+    size = replays .numbers .size;
+    exact = λ c m cell is. p .exact l t c m (replays .settled) (f .agrees) (here c cell) (sym (told c cell) ∙ is);
     complete = λ c enough cell.
-        let all = p .complete l t c (subst (λ (k : ℕ). 4 * k ≤ o .ceiling) (sym (f .cells)) enough) settled (f .agrees) (here c cell) in
-        is c cell ∙ all .1 ∙ ap (λ (m : ℕ). Some m) (p .exact l t c (all .0) settled (f .agrees) (here c cell) (all .1));
+        let all = p .complete l t c (subst (λ (k : ℕ). 4 * k ≤ o .ceiling) (sym (f .cells)) enough) (replays .settled) (f .agrees) (here c cell) in
+        told c cell ∙ all .1 ∙ ap (λ (m : ℕ). Some m) (p .exact l t c (all .0) (replays .settled) (f .agrees) (here c cell) (all .1));
+    zeros = λ c. (
+      λ has. let h = replays .zeros c .0 has in (h .0, told c (h .0) ∙ h .1),
+      λ h. replays .zeros c .1 (h .0, sym (told c (h .0)) ∙ h .1),
+    );
   }
     where
+      t : List ℕ
+      t = edited slots edits
+
+      f : Follows o n (edited slots edits) l
+      f = replays .follows
+
       here : (c : ℕ) → Cell n c → Cell (o .cells l) c
       here c cell = (cell .0, omega (arith, f .cells, cell .1))
 
-      is : (c : ℕ) → Cell n c → getD numbers (c - 1) None ≡ o .tells l c
-      is c cell =
-          let back : c - 1 + 1 ≡ c = omega (arith, cell .0) in
-          let answer = answers (c - 1) (omega (arith, cell .0, cell .1, size)) in
-          subst (λ (k : ℕ). getD numbers (c - 1) None ≡ o .tells l k) back (answer .told settled (subst (Cell (o .cells l)) (sym back) (here c cell)))
+      told : (c : ℕ) → Cell n c → getD (vec-items (r .numbers)) (c - 1) None ≡ o .tells l c
+      told = replays .numbers .told
+
+-- what the ledger answered is what it tells
+pub told-numbers : {L : Type 0} (o : Ops L) {n : ℕ} {l : L} (numbers : List (Option ℕ)) → length numbers ≡ n → o .cells l ≡ n → Settled o l → ((k : ℕ) → k < length numbers → Numbered o l (k + 1) (getD numbers k None)) → Told-numbers o n l numbers
+told-numbers o {n} {l} numbers size cells quiet answers = record {
+  size = size;
+  told = λ c cell.
+      let back : c - 1 + 1 ≡ c = omega (arith, cell .0) in
+      let answer = answers (c - 1) (omega (arith, cell .0, cell .1, size)) in
+      subst (λ (k : ℕ). getD numbers (c - 1) None ≡ o .tells l k) back
+      (answer .told quiet (subst (Cell (o .cells l)) (sym back) (cell .0, omega (arith, cells, cell .1))));
+}
 
 pub numbered-more : {L : Type 0} {o : Ops L} {l : L} (numbers : List (Option ℕ)) (x : Option ℕ) (n : ℕ) → length numbers ≡ n → Numbered o l (n + 1) x → ((k : ℕ) → k < length numbers → Numbered o l (k + 1) (getD numbers k None)) → (k : ℕ) → k < length (numbers ++ x ∷ []) → Numbered o l (k + 1) (getD (numbers ++ x ∷ []) k None)
 numbered-more {o = o} {l} numbers x n size last before k lt =

@@ -6,7 +6,7 @@ use Prim.Native.Nat.{ℕ, _*_, _-_, _≤_, _<_}
 use lib.ListN.{length, getD, set}
 use Rattle.ledgers.specs.Meaning.{Ops, Settled}
 use Rattle.ledgers.specs.Tables.{Cell, Table, holders}
-use Rattle.replay.specs.declared.replay.Edit.{Edit}
+use Rattle.parts.specs.declared.edits.Edit.{Edit}
 use Rattle.replay.specs.declared.replay.ReplayError.{ReplayError}
 use Rattle.replay.specs.declared.replay.ReplayError.the-variants.{TooManyCells, OutOfRange, Memory}
 use Rattle.replay.specs.declared.replay.Replayed.{Replayed}
@@ -43,11 +43,10 @@ module _ {L : Type 0} (o : Ops L) where
     pub cells : o .cells l ≡ n
     pub agrees : o .Agrees l t
 
-  -- The number of each cell is that of its holders, if one is told. Where the ceiling is at least the number of slots, one is told of every cell.
-  pub record Right-numbers (t : List ℕ) (n : ℕ) (numbers : List (Option ℕ)) : Type 0 where
+  -- What the ledger tells of each cell.
+  pub record Told-numbers (n : ℕ) (l : L) (numbers : List (Option ℕ)) : Type 0 where
     pub size : length numbers ≡ n
-    pub exact : (c m : ℕ) → Cell n c → getD numbers (c - 1) None ≡ Some m → m ≡ holders c t
-    pub complete : (c : ℕ) → 4 * n ≤ o .ceiling → Cell n c → getD numbers (c - 1) None ≡ Some (holders c t)
+    pub told : (c : ℕ) → Cell n c → getD numbers (c - 1) None ≡ o .tells l c
 
   -- It follows some table of n cells.
   abbrev pub Some-table : ℕ → L → Type 0
@@ -57,12 +56,12 @@ module _ {L : Type 0} (o : Ops L) where
   abbrev pub Zeros-listed : ℕ → L → List ℕ → Type 0
   Zeros-listed n l zeros = (c : ℕ) → Has zeros c ↔ (Cell n c × (o .tells l c ≡ Some 0))
 
-  -- The ledger is settled and follows the table that was replayed. It answered right, and told before it was settled how much waited.
+  -- The ledger is settled and follows the table that was replayed. It answered what it tells, and before it was settled how much waited.
   pub record Replays (n : ℕ) (t : List ℕ) (l : L) (r : Replayed) : Type 0 where
     pub follows : Follows n t l
     pub settled : Settled o l
     pub waited : (m : L) × o .Settles m l × (r .waiting ≡ o .waiting m)
-    pub numbers : Right-numbers t n (vec-items (r .numbers))
+    pub numbers : Told-numbers n l (vec-items (r .numbers))
     pub zeros : Zeros-listed n l (vec-items (r .zeros))
 
   -- What can't be replayed, and why.
@@ -79,3 +78,13 @@ module _ {L : Type 0} (o : Ops L) where
   abbrev pub Followed : List ℕ → List Edit → L → L → Result ℕ ReplayError → Type 0
   Followed slots edits l l′ (Ok n) = (length slots ≡ 4 * n) × Follows n (edited slots edits) l′
   Followed slots edits l l′ (Err e) = Refused slots edits l e
+
+-- What is known of the answers by the table alone. The number of each cell is that of its holders, if one is told.
+-- Where the ceiling is at least the number of slots, one is told of every cell. The cells listed as zeros are exactly those with the number 0.
+pub record Kept (ceiling : ℕ) (slots : List ℕ) (edits : List Edit) (r : Replayed) : Type 0 where
+  pub cells : ℕ
+  pub table : length slots ≡ 4 * cells
+  pub size : length (vec-items (r .numbers)) ≡ cells
+  pub exact : (c m : ℕ) → Cell cells c → getD (vec-items (r .numbers)) (c - 1) None ≡ Some m → m ≡ holders c (edited slots edits)
+  pub complete : (c : ℕ) → 4 * cells ≤ ceiling → Cell cells c → getD (vec-items (r .numbers)) (c - 1) None ≡ Some (holders c (edited slots edits))
+  pub zeros : (c : ℕ) → Has (vec-items (r .zeros)) c ↔ (Cell cells c × (getD (vec-items (r .numbers)) (c - 1) None ≡ Some 0))

@@ -5,16 +5,16 @@ ghost use mathlib.Core.Path.{_≡_};
 ghost use Prim.Native.Nat.{ℕ, _*_, _≤_, _<_};
 ghost use lib.ListN.{length, set};
 ghost use Rattle.ledgers.specs.Meaning.{Settled};
-ghost use Rattle.replay.specs.Replays.{Bad-content, Bad-edit, Followed, Follows, Replaying, Right-numbers, Some-table, Zeros-listed, edited};
+ghost use Rattle.replay.specs.Replays.{Bad-content, Bad-edit, Followed, Follows, Kept, Replaying, Told-numbers, Some-table, Zeros-listed, edited};
 ghost use Rattle.replay.specs.declared.replay.ReplayError.the-variants.{OutOfRange};
 ghost use Rattle.std.specs.Of.Vec.{vec-items};
 ghost use Rattle.std.specs.Vec.{made};
 ghost use Rattle.std.specs.declared.result.Result.the-variants.{Err, Ok};
-use super::replay::Edit;
 use super::replay::ReplayError;
 use super::replay::Replayed;
 use crate::ReplayErrorFromAlloc;
 use ledgers::Ledger;
+use parts::Edit;
 use std::alloc::AllocError;
 use std::alloc::Global;
 
@@ -29,7 +29,8 @@ pub fn replay_table<L: Ledger>(
     slots: &[u16],
     edits: &[Edit],
 ) -> Result<Replayed, ReplayError>
-    ensures { λ r. ⌜ Replaying (L·Ledger .ops) (now (slots .entry)) (now (edits .entry)) (now (ledger .entry)) (now (ledger .exit)) r ⌝ }
+    ensures ledger { λ r. ⌜ Replaying (L·Ledger .ops) (now (slots .entry)) (now (edits .entry)) (now (ledger .entry)) (now (ledger .exit)) r ⌝ }
+    ensures kept { λ r. ⌜ made r (Kept (L·Ledger .ops .ceiling) (now (slots .entry)) (now (edits .entry))) ⌝ }
 {
     let n = follow(heap, ledger, slots, edits)?;
     let waiting = ledger.waiting();
@@ -83,7 +84,7 @@ fn draw<L: Ledger>(
     change(ledger, table, edits, n)
 }
 
-// Puts a content into a slot of the table, with its note.
+// Puts a content into a slot of the table. Only a change is noted.
 fn put<L: Ledger>(ledger: &mut L, table: &mut [u16], slot: usize, content: u16)
     requires few { ⌜ length (now table) ≤ 4096 ⌝ }
     requires within { ⌜ slot < length (now table) ⌝ }
@@ -91,6 +92,9 @@ fn put<L: Ledger>(ledger: &mut L, table: &mut [u16], slot: usize, content: u16)
     ensures follows { λ _. ⌜ ((n : ℕ) → content ≤ n → Follows (L·Ledger .ops) n (now (table .entry)) (now (ledger .entry)) → Follows (L·Ledger .ops) n (now (table .exit)) (now (ledger .exit))) ⌝ }
 {
     let old = table[slot];
+    if old == content {
+        return;
+    }
     ledger.note(slot as u16, old, content);
     table[slot] = content;
 }
@@ -137,7 +141,7 @@ fn change<L: Ledger>(
 
 // What a settled ledger tells of each cell.
 fn numbers<L: Ledger>(heap: Global, ledger: &L, n: u16) -> Result<Vec<Option<u16>>, AllocError>
-    ensures { λ r. ⌜ made r (λ v. (t : List ℕ) → Follows (L·Ledger .ops) n t (now (ledger .entry)) → Settled (L·Ledger .ops) (now (ledger .entry)) → Right-numbers (L·Ledger .ops) t n (vec-items v)) ⌝ }
+    ensures { λ r. ⌜ made r (λ v. Some-table (L·Ledger .ops) n (now (ledger .entry)) → Settled (L·Ledger .ops) (now (ledger .entry)) → Told-numbers (L·Ledger .ops) n (now (ledger .entry)) (vec-items v)) ⌝ }
 {
     let mut numbers = Vec::new(heap);
     for i in 0..n {

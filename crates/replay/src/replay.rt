@@ -2,13 +2,8 @@
 ghost use mathlib.Core.Path.{_≡_};
 ghost use Rattle.replay.specs.declared.replay.ReplayError.the-variants.{Memory as NoMemory};
 use std::alloc::AllocError;
-
-/// A slot gets another content.
-#[derive(Clone, Copy)]
-pub struct Edit {
-    pub slot: u16,
-    pub content: u16,
-}
+use std::error::Error;
+use std::fmt;
 
 /// What a ledger answered after a replay.
 #[derive(Drop)]
@@ -38,3 +33,15 @@ pub impl From<AllocError> for ReplayError as ReplayErrorFromAlloc {
         ReplayError::Memory
     }
 }
+
+pub impl fmt::Display for ReplayError as ReplayErrorDisplay {
+    fn fmt<W: fmt::Write>(&self, f: &mut fmt::Formatter<W>) -> fmt::Result {
+        match self {
+            ReplayError::TooManyCells => f.write_str("more parts than the ledger has room for"),
+            ReplayError::OutOfRange => f.write_str("a slot or its content is out of range"),
+            ReplayError::Memory => f.write_str("out of memory"),
+        }
+    }
+}
+
+pub impl Error for ReplayError as ReplayErrorError {}

@@ -12,9 +12,9 @@ ghost use Rattle.parts.specs.Building.{bytes, known, mark, Building, Described
 ghost use Rattle.parts.specs.Drawn.{Called};
 ghost use Rattle.parts.specs.Text.{Bytes};
 use super::Drawing;
-use crate::fault::DescribeError;
-use crate::fault::DescribeErrorFromAlloc;
 use crate::fault::Fault;
+use crate::fault::LineError;
+use crate::fault::LineErrorFromAlloc;
 use crate::names;
 use std::alloc::Global;
 
@@ -35,12 +35,12 @@ impl<'a> Drawing<'a> {
     }
 
     // One more description: the name of a part, and the names of those that it points to.
-    pub(crate) fn describe(&mut self, words: &[&'a [u8]]) -> Result<(), DescribeError>
+    pub(crate) fn describe(&mut self, words: &[&'a [u8]]) -> Result<(), LineError>
         requires some { ⌜ 0 < length (now words) ⌝ }
         ensures { λ r. ⌜ ((ds : List (List Bytes)) → Building ds (now (self .entry)) → Described ds (bytes (now (words .entry))) (now (self .exit)) r) ⌝ }
     {
         if let Some(fault) = names::fault_in(words) {
-            return Err(DescribeError::Wrong(fault));
+            return Err(LineError::Wrong(fault));
         }
         let part = self.subject(words[0])?;
         self.place(part, &words[1..])?;
@@ -51,7 +51,7 @@ impl<'a> Drawing<'a> {
     }
 
     // Fills the first slots of a part with the numbers of these names.
-    fn place(&mut self, part: u16, names: &[&'a [u8]]) -> Result<(), DescribeError>
+    fn place(&mut self, part: u16, names: &[&'a [u8]]) -> Result<(), LineError>
         requires is_part { ⌜ 1 ≤ part ⌝ ∗ ⌜ part ≤ length (known (now self)) ⌝ }
         requires fits { ⌜ length (now names) ≤ 4 ⌝ }
         ensures { λ r. ⌜ Cases r (λ _. Filled part (bytes (now (names .entry))) (now (self .entry)) (now (self .exit))) (Crowded (bytes (now (names .entry))) (now (self .entry))) ⌝ }
@@ -65,20 +65,20 @@ impl<'a> Drawing<'a> {
     }
 
     // The number of the part that a description is about, which no other may have described.
-    fn subject(&mut self, name: &'a [u8]) -> Result<u16, DescribeError>
+    fn subject(&mut self, name: &'a [u8]) -> Result<u16, LineError>
         ensures { λ r. ⌜ Cases r (λ c. Numbered (now (name .entry)) (now (self .entry)) (now (self .exit)) c × (mark (now (self .exit)) c ≡ false)) (Unfit (now (name .entry)) (now (self .entry))) ⌝ }
     {
         let Some(part) = self.find(name) else {
             return self.add(name);
         };
         if self.described[usize::from(part) - 1] {
-            return Err(DescribeError::Wrong(Fault::DescribedTwice));
+            return Err(LineError::Wrong(Fault::DescribedTwice));
         }
         Ok(part)
     }
 
     // The number of the part with this name, which becomes a new part if it is none yet.
-    fn number(&mut self, name: &'a [u8]) -> Result<u16, DescribeError>
+    fn number(&mut self, name: &'a [u8]) -> Result<u16, LineError>
         ensures { λ r. ⌜ Cases r (λ c. Numbered (now (name .entry)) (now (self .entry)) (now (self .exit)) c) (Crowded (now (name .entry) ∷ []) (now (self .entry))) ⌝ }
     {
         match self.find(name) {
@@ -88,7 +88,7 @@ impl<'a> Drawing<'a> {
     }
 
     // The number of the part with this name.
-    fn find(&self, name: &[u8]) -> Option<u16>
+    pub(crate) fn find(&self, name: &[u8]) -> Option<u16>
         ensures { λ r. ⌜ BySome r (Has (known (now (self .entry))) (now (name .entry)) → ⊥) (λ c. Called (known (now (self .entry))) c (now (name .entry))) ⌝ }
     {
         for (i, other) in self.names.iter().enumerate() {
@@ -100,12 +100,12 @@ impl<'a> Drawing<'a> {
     }
 
     // A new part, with its number.
-    fn add(&mut self, name: &'a [u8]) -> Result<u16, DescribeError>
+    fn add(&mut self, name: &'a [u8]) -> Result<u16, LineError>
         requires { ⌜ (Has (known (now self)) (now name) → ⊥) ⌝ }
         ensures { λ r. ⌜ Cases r (λ c. Numbered (now (name .entry)) (now (self .entry)) (now (self .exit)) c × (mark (now (self .exit)) c ≡ false)) (Crowded (now (name .entry) ∷ []) (now (self .entry))) ⌝ }
     {
         if self.names.len() == MOST_PARTS {
-            return Err(DescribeError::Wrong(Fault::TooManyParts));
+            return Err(LineError::Wrong(Fault::TooManyParts));
         }
         // Memory first, so that the part is new in all three or in none.
         self.names.reserve(1)?;

@@ -4,7 +4,7 @@ use Prim.Native.Nat.{ℕ, _+_, _<_}
 use native.Mathlib.Omega.{arith}
 use lib.ListN.{getD, length}
 use Rattle.ledgers.specs.Answers.{Numbered}
-use Rattle.replay.proofs.Following.{numbered-more, right-numbers}
+use Rattle.replay.proofs.Following.{numbered-more, told-numbers}
 use Rattle.std.proofs.Told.{chosen}
 use Rattle.std.proofs.shelf.Lists.{length-push}
 use Rattle.std.specs.Of.Vec.{vec-items}
@@ -26,4 +26,5 @@ loop-i-again g c =
     )
 
 pub returns : need.returns
-returns g c t f settled = right-numbers (g .L·Ledger .laws) (vec-items (c .loop-i .numbers)) (omega (arith, c .loop-i .inv .0)) (c .loop-i .inv .1 t f) f settled
+returns g c follows quiet =
+    told-numbers (g .L·Ledger .ops) (vec-items (c .loop-i .numbers)) (omega (arith, c .loop-i .inv .0)) (follows .1 .cells) quiet (c .loop-i .inv .1 (follows .0) (follows .1))

@@ -16,3 +16,9 @@ returns-in-DescribedTwice c = ap sentence (sym (c .in-DescribedTwice .is))
 
 pub returns-in-TooManyParts : need.returns-in-TooManyParts
 returns-in-TooManyParts c = ap sentence (sym (c .in-TooManyParts .is))
+
+pub returns-in-BadEdit : need.returns-in-BadEdit
+returns-in-BadEdit c = ap sentence (sym (c .in-BadEdit .is))
+
+pub returns-in-UnknownPart : need.returns-in-UnknownPart
+returns-in-UnknownPart c = ap sentence (sym (c .in-UnknownPart .is))
