@@ -5,6 +5,7 @@ ghost use Rattle.ledgers.specs.BottomLaws.{bottom-lawful};
 ghost use Rattle.ledgers.specs.Bottoms.{bottom-ops, counts-of};
 use super::ledger::Ledger;
 use super::ledger::TooManyCells;
+use super::range::in_range;
 use super::rows;
 use counts::Count;
 
@@ -58,8 +59,7 @@ pub impl<'a, K: Count> Ledger for Bottom<'a, K> as BottomLedger {
     }
 
     fn note(&mut self, slot: u16, old: u16, new: u16) {
-        let n = self.n;
-        if old == new || slot as u32 >= 4 * n as u32 || old > n || new > n {
+        if old == new || !in_range(self.n, slot, old, new) {
             return;
         }
         rows::lower::<K>(self.rows, old);

@@ -1,6 +1,7 @@
 //! Ledgers of reference counts: what a ledger means, and the bottom ledger, which keeps a count for each cell.
 mod bottom;
 mod ledger;
+mod range;
 mod rows;
 mod theorem;
 
@@ -11,4 +12,5 @@ pub use ledger::TooManyCells;
 pub use ledger::TooManyCellsDebug;
 pub use ledger::TooManyCellsEq;
 pub use ledger::TooManyCellsPartialEq;
+pub use range::in_range;
 pub use theorem::bottom_ceiling;

@@ -1,15 +1,14 @@
 //! What a queue does. When a note comes and 64 are there, all go down in order first.
 ghost use mathlib.Core.List.{[], reverse};
 ghost use mathlib.Core.Path.{_≡_};
-ghost use Rattle.ledgers.specs.Meaning.{InRange};
 ghost use Rattle.queue.specs.QueueLaws.{queue-lawful};
 ghost use Rattle.queue.specs.Queues.{Passed, emptied, queue-ops, waiting-notes};
-ghost use Rattle.std.specs.Orderings.{Decides};
 use super::queue::Note;
 use super::queue::Notes;
 use super::queue::Queue;
 use ledgers::Ledger;
 use ledgers::TooManyCells;
+use ledgers::in_range;
 
 const ROOM: usize = 64;
 
@@ -43,13 +42,6 @@ impl<L: Ledger> Queue<L> {
         }
         self.inner.len = 0;
     }
-
-    fn in_range(&self, slot: u16, old: u16, new: u16) -> bool
-        ensures { λ r. ⌜ Decides r (InRange (L·Ledger .ops) (now (self .entry) .below) slot old new) ⌝ }
-    {
-        let n = self.below.cells();
-        (slot as u32) < 4 * n as u32 && old <= n && new <= n
-    }
 }
 
 pub impl<L: Ledger> Ledger for Queue<L> as QueueLedger {
@@ -82,7 +74,7 @@ pub impl<L: Ledger> Ledger for Queue<L> as QueueLedger {
     }
 
     fn note(&mut self, slot: u16, old: u16, new: u16) {
-        if !self.in_range(slot, old, new) {
+        if !in_range(self.cells(), slot, old, new) {
             return;
         }
         if self.inner.len >= ROOM {

@@ -86,6 +86,20 @@ mod tests {
         check_eq(ledger.number(1), Some(65))
     }
 
+    // No contract knows an associated constant of a bound, so that a layer names the ceiling of the ledger below is tested.
+    fn names_its_ceiling<L: Ledger>(_: &L) -> Result<(), Fail> {
+        check_eq(L::CEILING, L::top())
+    }
+
+    #[test]
+    fn every_layer_names_its_ceiling() -> Result<(), Fail> {
+        let mut rows = [STICKY; 1];
+        names_its_ceiling(&Bottom::<Sticky>::new(&mut rows))?;
+        names_its_ceiling(&Queue::new(Bottom::<Sticky>::new(&mut rows)))?;
+        names_its_ceiling(&Log::new(Bottom::<Sticky>::new(&mut rows)))?;
+        names_its_ceiling(&Zeros::new(Bottom::<Sticky>::new(&mut rows)))
+    }
+
     #[test]
     fn out_of_range_changes_nothing() -> Result<(), Fail> {
         let mut rows = [EXACT; 3];

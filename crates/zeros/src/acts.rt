@@ -8,6 +8,7 @@ use super::zeros::Bits;
 use super::zeros::Zeros;
 use ledgers::Ledger;
 use ledgers::TooManyCells;
+use ledgers::in_range;
 
 impl<L: Ledger> Zeros<L> {
     /// No bit is set: the table is right from the first clear on.
@@ -53,8 +54,7 @@ pub impl<L: Ledger> Ledger for Zeros<L> as ZerosLedger {
     }
 
     fn note(&mut self, slot: u16, old: u16, new: u16) {
-        let n = self.cells();
-        if slot as u32 >= 4 * n as u32 || old > n || new > n {
+        if !in_range(self.cells(), slot, old, new) {
             return;
         }
         let was_settled = self.waiting() == 0;

@@ -11,6 +11,7 @@ use super::ROOM;
 use super::SLOTS;
 use ledgers::Ledger;
 use ledgers::TooManyCells;
+use ledgers::in_range;
 
 /// Passes an entry down as one note, or not at all if its slot contains again what it contained first.
 fn send<L: Ledger>(below: &mut L, entry: Entry)
@@ -38,8 +39,7 @@ impl<L: Ledger> Log<L> {
         ensures yes { λ r. ⌜ (r ≡ true → Takes (L·Ledger .ops .cells (now (self .entry) .below)) slot old new) ⌝ }
         ensures no { λ r. ⌜ (r ≡ false → Takes (L·Ledger .ops .cells (now (self .entry) .below)) slot old new → ⊥) ⌝ }
     {
-        let n = self.cells();
-        usize::from(slot) < SLOTS && u32::from(slot) < 4 * u32::from(n) && old <= n && new <= n
+        usize::from(slot) < SLOTS && in_range(self.cells(), slot, old, new)
     }
 
     /// Passes every entry down, in order of entry.

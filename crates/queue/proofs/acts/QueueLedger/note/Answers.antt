@@ -1,8 +1,10 @@
 use mathlib.Core.List.{reverse}
 use mathlib.Core.Path.{_≡_, sym, ap, subst, _∙_}
+use native.Mathlib.Omega.{arith}
 use borrow.Author.Needs.{needs}
 use borrow.Author.Tests.{both-ways}
 use lib.ListN.{length}
+use Rattle.ledgers.specs.Meaning.{InRange}
 use Rattle.queue.proofs.Notings.{put, stays, joins, starts}
 use Rattle.queue.specs.Queues.{Passed, Queue-notes, waiting-notes}
 use Rattle.queue.specs.declared.queue.Queue.{Queue}
@@ -12,13 +14,18 @@ use Rattle.queue.proofs.acts.QueueLedger.note.Needs.{then-self-ge-ROOM, else-s
 pub returns-then-not-in-range : need.returns-then-not-in-range
 returns-then-not-in-range g c =
     stays (g .L·Ledger .ops) (c .args .slot) (c .args .old) (c .args .new) (c .args .self .now)
-    (λ range. both-ways (c .in-range .result) (c .if-not-in-range .taken) (c .in-range .ensures .1 range))
+    (λ range.
+    let n = c .cells .ensures in
+    both-ways (c .in-range .result) (c .if-not-in-range .taken)
+    (c .in-range .ensures .1 (omega (arith, n, range .0), omega (arith, n, range .1), omega (arith, n, range .2))))
 
 pub returns : need.returns
 returns g c =
     let o = g .L·Ledger .ops in
     let q = c .args .self .now in
-    let range = c .in-range .ensures .0 (c .if-not-in-range .left) in
+    let n = c .cells .ensures in
+    let inside = c .in-range .ensures .0 (c .if-not-in-range .left) in
+    let range : InRange o (q .below) (c .args .slot) (c .args .old) (c .args .new) = (omega (arith, n, inside .0), omega (arith, n, inside .1), omega (arith, n, inside .2)) in
     let long : length (c .if-self-ge-ROOM .self .inner .at) ≡ 64 = search needs in
     let now-queue = c .if-self-ge-ROOM .self in
     elim (c .if-self-ge-ROOM .came) [
