@@ -102,5 +102,9 @@ fn run(rt: &LibcRuntime) -> Result<(), AnyError> {
 }
 
 fn main(rt: LibcRuntime) -> Result<(), AnyError> {
-    rt.report(run(&rt))
+    let outcome = run(&rt);
+    if let Err(error) = &outcome {
+        eprintln!(rt, "{error}")?;
+    }
+    outcome
 }
