@@ -1,4 +1,6 @@
 //! Counts of references, which tell a number up to a ceiling of their kind and are stuck above it.
+#![tactic(auto)]
+
 mod count;
 mod exact;
 mod sticky;

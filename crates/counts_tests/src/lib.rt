@@ -1,4 +1,6 @@
 //! The edges of the three kinds of count.
+#![tactic(auto)]
+
 #[cfg(test)]
 mod tests {
     use counts::{Count, Exact, ExactRow, Sticky, StickyRow, Tally, TallyRow};

@@ -1,4 +1,6 @@
 //! Reads a drawing and edits of it from standard input, keeps its references through a stack of ledgers, and prints what it found.
+#![tactic(auto)]
+
 use counts::{Count, Exact, ExactRow, Sticky, StickyRow, Tally, TallyRow};
 use parts::{Drawing, Edit};
 use replay::{Replayed, keep};

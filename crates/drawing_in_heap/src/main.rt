@@ -1,4 +1,6 @@
 //! Reads a drawing and edits of it from standard input, enters it into a heap through the heap's calls, and prints what heap and ledger answer.
+#![tactic(auto)]
+
 ghost use Rattle.entry.specs.Entries.{Accepted};
 ghost use Rattle.heap.specs.States.{state};
 

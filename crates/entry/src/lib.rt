@@ -1,4 +1,6 @@
 //! Enters a drawing into a heap through its calls, and asks the heap and its ledger about the parts.
+#![tactic(auto)]
+
 mod answers;
 mod entering;
 mod error;

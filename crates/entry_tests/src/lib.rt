@@ -1,4 +1,6 @@
 //! Drawings in a heap, through a queue over a log over a zero table over exact counts.
+#![tactic(auto)]
+
 ghost use Rattle.entry.specs.Entries.{Accepted};
 ghost use Rattle.heap.specs.States.{state};
 

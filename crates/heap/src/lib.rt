@@ -1,4 +1,6 @@
 //! A heap of cells with four slots each, roots and holds, and the calls of a program that uses it.
+#![tactic(auto)]
+
 mod bits;
 mod graph;
 mod heap;

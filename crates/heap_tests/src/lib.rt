@@ -1,4 +1,6 @@
 //! The heap at its edges.
+#![tactic(auto)]
+
 ghost use Rattle.std.specs.Prelude.{◌≡◌, false, None};
 ghost use Rattle.heap.specs.Calls.{open_token, release_checks, with_hold};
 ghost use Rattle.heap.specs.Refusals.{cause_of};

@@ -1,4 +1,6 @@
 //! Trials of the ledgers: random notes go through every stack of layers, over every kind of count, against a plain recount.
+#![tactic(auto)]
+
 mod kinds;
 mod plain;
 mod random;

@@ -1,4 +1,6 @@
 //! Ledgers of reference counts: what a ledger means, and the bottom ledger, which keeps a count for each cell.
+#![tactic(auto)]
+
 mod bottom;
 mod ledger;
 mod range;

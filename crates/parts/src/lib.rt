@@ -1,4 +1,6 @@
 //! Drawings as text: the parts by name, which part points to which, and edits of that.
+#![tactic(auto)]
+
 mod drawing;
 mod edits;
 mod fault;

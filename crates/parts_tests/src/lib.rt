@@ -1,4 +1,6 @@
 //! What the text of a drawing gives, and every way in which it is refused.
+#![tactic(auto)]
+
 #[cfg(test)]
 mod tests {
     use parts::{Edit, Fault, LineKind, ReadError, find_line, read, read_edits};

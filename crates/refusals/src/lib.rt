@@ -1,4 +1,6 @@
 //! Why a call on the heap is refused.
+#![tactic(auto)]
+
 mod refusal;
 
 pub use refusal::Refusal;

@@ -1,4 +1,6 @@
 //! Replays a table of slots, and edits of it, through any ledger.
+#![tactic(auto)]
+
 mod acts;
 mod replay;
 mod stack;

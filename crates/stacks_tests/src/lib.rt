@@ -1,4 +1,6 @@
 //! Layers at their edges, and the worked example of the documents.
+#![tactic(auto)]
+
 #[cfg(test)]
 mod tests {
     use coalescing::Log;

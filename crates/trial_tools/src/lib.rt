@@ -1,4 +1,6 @@
 //! What trials share: pseudo-random numbers, the kinds of count, and stacks by name.
+#![tactic(auto)]
+
 mod kinds;
 mod random;
 mod stack;

@@ -1,4 +1,6 @@
 //! Trials of the heap: random calls on two heaps at a time, over twelve stacks of ledgers, against a plain model.
+#![tactic(auto)]
+
 mod calls;
 mod compare;
 mod course;
