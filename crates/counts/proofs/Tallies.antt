@@ -1,6 +1,6 @@
 -- What holds of every tally. A rule is an equation between two functions of the byte, and antt computes both at all nine tallies.
 -- Assumes nothing.
-use Rattle.std.proofs.Common.{◌≡◌, ℕ, ◌+◌, ◌-◌, ◌*◌, ◌/◌, ◌%◌, ◌^◌, ◌<◌, ◌≤◌, cond, eqb, List, map, get_or, Some, None, Option, sym, refl, ap, ◌∙◌, subst, arith, ne_eqb}
+use Rattle.std.proofs.Common.{◌≡◌, ℕ, ◌+◌, ◌-◌, ◌*◌, ◌/◌, ◌%◌, ◌^◌, ◌<◌, ◌≤◌, cond, eqb, List, map, get_or, Some, None, sym, refl, ap, ◌∙◌, subst, arith, ne_eqb}
 use lib.Bits.{bit_or}
 use lib.Count.{ones, ones-le}
 use Rattle.std.proofs.lemmas.List.FromFn.{get_or-map-range_with_len}

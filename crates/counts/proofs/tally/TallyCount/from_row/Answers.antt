@@ -4,10 +4,10 @@ use Rattle.std.proofs.lemmas.Nat.{one_shl}
 use Rattle.counts.proofs.Tallies.{eight_low}
 use Rattle.counts.proofs.tally.TallyCount.from_row.Goals as goal
 
-pub invariant-of-result : goal.invariant-of-result
-invariant-of-result c = (eight_low, tt)
+pub invariant_of-result : goal.invariant_of-result
+invariant_of-result c = record { low = eight_low }
 
-pub invariant-of-result-2 : goal.invariant-of-result-2
-invariant-of-result-2 c =
+pub invariant_of-result-2 : goal.invariant_of-result-2
+invariant_of-result-2 c =
     let few = ones-le 8 c.args.row.ones (search rules) in
-    (c.if-row.false ∙ one_shl (ones c.args.row.ones) 16 (omega arith), tt)
+    record { low = c.if-row.false ∙ one_shl (ones c.args.row.ones) 16 (omega arith) }
