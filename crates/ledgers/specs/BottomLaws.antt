@@ -1,5 +1,5 @@
 -- The bottom ledger is lawful. Nothing in this file has to be believed: it is checked proof.
-use Rattle.std.specs.Prelude.{◌≡◌, ℕ, zero, suc, ◌+◌, ◌-◌, ◌*◌, ◌<◌, ◌≤◌, min, Bool, true, false, cond, ◌≢◌, ◌⊎◌, ◌↔◌, List, [], ◌∷◌, ◌++◌, length, get_or, drop, set, replicate, Some, None, Option, nat_eq, nat_le, slice_index, slice_index_or, slice_set, refl}
+use Rattle.std.specs.Prelude.{◌≡◌, ℕ, zero, suc, ◌+◌, ◌-◌, ◌*◌, ◌<◌, ◌≤◌, min, Bool, cond, ◌≢◌, ◌⊎◌, ◌↔◌, List, length, get_or, drop, set, replicate, Some, None, Option, nat_eq, nat_le, slice_index, slice_index_or, slice_set, refl}
 use Rattle.std.proofs.Common.{inl, inr, ⊎_elim, sym, ap, subst, ◌∙◌, arith}
 use Rattle.counts.specs.Counting.{raised, lowered, set_to}
 use Rattle.ledgers.specs.Bottoms.{more as one_more, Counts, room, Right, cleared, less, moved, IsInRange, BottomAgrees, Becomes, BottomClears, BottomNotes, BottomRecounts, bottom_ops}
@@ -8,8 +8,8 @@ use Rattle.ledgers.specs.Meaning as meaning
 use Rattle.ledgers.specs.TableLaws.{decide_range, hit, hit_yes, hit_no, holders_set, holders_empty, table_empty, table_set}
 use Rattle.ledgers.specs.Tables.{Table, holders, Cell}
 use Rattle.std.proofs.lemmas.List.{length-set, length-append, length-drop, length-replicate, get_or-set_same, get_or-set_other, set-get_or, get_or-replicate, get_or_append_left, set_past}
-use Rattle.std.proofs.lemmas.List.Sums.{sum_by-set, count_by-le-length}
-use Rattle.std.proofs.lemmas.Bool.{cases_eq, cases_lt, cases_Bool, cond-true, cond-false, eq-eqb, ne_eqb, lt-ltb, le-ltb, le-leb, lt-leb, ltb-false}
+use Rattle.std.proofs.lemmas.List.Sums.{count_by-le-length}
+use Rattle.std.proofs.lemmas.Bool.{cases_eq, cases_lt, cond-true, cond-false, lt-ltb, le-ltb, le-leb, lt-leb}
 
 right_raised : (ceiling n : ℕ) (x : Option ℕ) (h : ℕ) → h + 1 ≤ 4 * n → Right ceiling n x h → Right ceiling n (raised ceiling x) (h + 1)
 right_raised ceiling n None h few right = right

@@ -39,7 +39,7 @@ top_kept None c s s' held = (held.1.cells, held.1.slots)
 pub returns-in-Ok : goal.returns-in-Ok
 returns-in-Ok g c =
     let o = g.L.Ledger.ops in
-    let fetched = c.in-default.ensures in
+    let fetched = c.in_default.ensures in
     let forgot = c.in-ok-forget-all.ensures in
     let held = c.in-Ok.ensures in
     let kept = top_kept c.in-Ok.token _ (state c.forget-all.new.heap) (state c.hold-top.new.heap) held in (

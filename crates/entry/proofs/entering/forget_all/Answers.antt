@@ -17,7 +17,7 @@ loop-i-init g c = (record { cells_kept = refl; slots = none; holds = refl; used 
 
 pub loop-i-preserved : goal.loop-i-preserved
 loop-i-preserved g c =
-    let forgot = c.in-default.ensures in
+    let forgot = c.in_default.ensures in
     let inv = c.loop-i.invariant in (
       forgotten-more c.args.cells.now c.loop-i.i (state c.args.heap.now) (state c.loop-i.heap) (state c.forget.new.heap) inv.0 forgot.0,
       λ h. forgot.1 (inv.1 h),

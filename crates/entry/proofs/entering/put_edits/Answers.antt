@@ -13,7 +13,7 @@ loop-i-preserved g c =
     let edits = c.args.edits.now in
     let i = c.loop-i.i in
     let inv = c.loop-i.invariant in
-    let put = c.in-default.ensures in
+    let put = c.in_default.ensures in
     let before = state c.args.heap.now in
     let none : Edit = record { slot = 0; content = 0 } in
     let edit = get_or edits i none in

@@ -19,24 +19,24 @@ few words h = rw length-map h
 pub returns-then-words-gt-MOST-WORDS : goal.returns-then-words-gt-MOST-WORDS
 returns-then-words-gt-MOST-WORDS c = too_long (known c.args.drawing.now) (bytes c.args.words.now) (rw length-map c.if-words-gt-MOST-WORDS.true)
 
-pub returns-in-default : goal.returns-in-default
-returns-in-default c =
+pub returns-in_default : goal.returns-in_default
+returns-in_default c =
     let words = c.args.words.now in
-    no_slot (known c.args.drawing.now) (bytes words) (ap is_slot (first words _ c.requires) ∙ c.in-default.ensures.0)
+    no_slot (known c.args.drawing.now) (bytes words) (ap is_slot (first words _ c.requires) ∙ c.in_default.ensures.0)
 
-pub returns-in-default-find : goal.returns-in-default-find
-returns-in-default-find c =
+pub returns-in_default-find : goal.returns-in_default-find
+returns-in_default-find c =
     let words = c.args.words.now in
     let names = known c.args.drawing.now in
     let at = c.in-Some.ensures in
     let word = first words _ c.requires in
     no_owner names (bytes words) (few words c.if-words-gt-MOST-WORDS.false) (ap is_slot word ∙ at.0)
-    (λ h. c.in-default-find.ensures (subst (Has names) (ap owner word ∙ sym at.1) h))
+    (λ h. c.in_default-find.ensures (subst (Has names) (ap owner word ∙ sym at.1) h))
 
-pub returns-in-default-new-content : goal.returns-in-default-new-content
-returns-in-default-new-content c =
+pub returns-in_default-new-content : goal.returns-in_default-new-content
+returns-in_default-new-content c =
     let words = c.args.words.now in
-    let none = c.in-default-new-content.ensures in
+    let none = c.in_default-new-content.ensures in
     no_other (known c.args.drawing.now) (bytes words) (few words c.if-words-gt-MOST-WORDS.false) (ap is_slot (first words _ c.requires) ∙ c.in-Some.ensures.0)
     (rw length-map none.0) none.1
 

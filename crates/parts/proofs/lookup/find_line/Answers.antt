@@ -13,8 +13,8 @@ returns-then-to-pass-eq0 c =
     let same = ap (map (λ w. w.now)) c.deref.ensures.value ∙ c.in-ok-words.ensures in
     stopped kind name c.args.text.now _ _ _ _ _ c.loop-words.invariant _ c.cut.ensures (sym (c.if-is.ensures ∙ ap (is_sought kind name) same)) c.if-to-pass-eq0.true
 
-pub returns-in-default : goal.returns-in-default
-returns-in-default c =
+pub returns-in_default : goal.returns-in_default
+returns-in_default c =
     let kind = c.args.kind in
     let name = c.args.name.now in
     let same = ap (map (λ w. w.now)) c.deref.ensures.value ∙ c.in-ok-words.ensures in
@@ -23,7 +23,7 @@ returns-in-default c =
       | then-is+else-to-pass-eq0 w ↦ inl (sym (w.if-is.ensures ∙ ap (is_sought kind name) same), omega arith, w.to-pass-is)
       | else_is w ↦ inr (sym (w.if-is.ensures ∙ ap (is_sought kind name) same), w.to-pass-is)
     ] in
-    all_done kind name c.args.text.now _ _ _ _ _ c.loop-words.invariant _ gone (subst (Cut newline _ _) c.in-default.is c.cut.ensures)
+    all_done kind name c.args.text.now _ _ _ _ _ c.loop-words.invariant _ gone (subst (Cut newline _ _) c.in_default.is c.cut.ensures)
 
 pub loop-words-preserved : goal.loop-words-preserved
 loop-words-preserved c =

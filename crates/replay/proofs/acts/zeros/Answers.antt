@@ -27,4 +27,4 @@ loop-c-preserved g c =
 pub returns : goal.returns
 returns g c =
     let f = c.requires.follows.1 in
-    listed_all g.L.Ledger.ops c.args.n c.loop-c.from c.args.ledger.now (vec_items c.loop-c.zeros) f.cells c.loop-c.invariant.2 (c.in-default.ensures c.requires.follows.0 f.agrees c.requires.settled)
+    listed_all g.L.Ledger.ops c.args.n c.loop-c.from c.args.ledger.now (vec_items c.loop-c.zeros) f.cells c.loop-c.invariant.2 (c.in_default.ensures c.requires.follows.0 f.agrees c.requires.settled)

@@ -11,8 +11,8 @@ returns-then-len-eq-MOST-PARTS c =
     let long = ap length (added_new names c.args.name.now c.requires) ∙ length_push names c.args.name.now in
     (refl, omega (arith, long, parts c.args.self.now, c.len.ensures, c.if-len-eq-MOST-PARTS.true))
 
-pub invariant-of-self-2 : goal.invariant-of-self-2
-invariant-of-self-2 c =
+pub invariant_of-self-2 : goal.invariant_of-self-2
+invariant_of-self-2 c =
     let old = c.args.self.now in
     let names = c.push-reserved.ensures.len ∙ ap (λ n. n + 1) c.reserve.ensures.len in
     let described = c.push-reserved-2.ensures.len ∙ ap (λ n. n + 1) c.reserve-2.ensures.len in

@@ -34,7 +34,7 @@ returns-in-err-part c ds b =
     let e = c.in-err-part.field-0.0 in
     rw (p.1, p.2)
     (described_as ds _ _ c.subject.new.self (Err e) (split words _ c.requires.some)
-    (described_unfit b _ (rest words) (fine words _ c.requires.some c.in-default.ensures) c.subject.new.self e c.in-err-part.ensures))
+    (described_unfit b _ (rest words) (fine words _ c.requires.some c.in_default.ensures) c.subject.new.self e c.in-err-part.ensures))
 
 pub place-requires : goal.place-requires
 place-requires c =
@@ -42,7 +42,7 @@ place-requires c =
     let is = c.in-ok-part.ensures.0.called in
     record {
       is_part = (is.0, is.1);
-      fits = omega (arith, few words c.in-default.ensures, ap length (take_rest words 1), length-drop 1 words);
+      fits = omega (arith, few words c.in_default.ensures, ap length (take_rest words 1), length-drop 1 words);
     }
 
 pub returns-in-err-place : goal.returns-in-err-place
@@ -53,7 +53,7 @@ returns-in-err-place c ds b =
     let num = c.in-ok-part.ensures in
     rw (p.1, p.2)
     (described_as ds _ _ c.place.new.self (Err e) (split words _ c.requires.some)
-    (described_crowded b num.0 num.1 (rest words) (fine words _ c.requires.some c.in-default.ensures) c.place.new.self e c.in-err-place.ensures))
+    (described_crowded b num.0 num.1 (rest words) (fine words _ c.requires.some c.in_default.ensures) c.place.new.self e c.in-err-place.ensures))
 
 pub index-mut-requires : goal.index-mut-requires
 index-mut-requires c =
@@ -65,10 +65,10 @@ pub overflow-add-self : goal.overflow-add-self
 overflow-add-self c = omega (arith, few_lines c.place.new.self)
 
 pub overflow-add-self-2 : goal.overflow-add-self-2
-overflow-add-self-2 c = omega (arith, few_lines c.place.new.self, c.place.new.self.bounded, few c.args.words.now c.in-default.ensures)
+overflow-add-self-2 c = omega (arith, few_lines c.place.new.self, c.place.new.self.bounded, few c.args.words.now c.in_default.ensures)
 
-pub invariant-of-self : goal.invariant-of-self
-invariant-of-self c =
+pub invariant_of-self : goal.invariant_of-self
+invariant_of-self c =
     let full = c.place.new.self in
     let num = c.in-ok-part.ensures in
     let fill = c.in-ok-place.ensures in
@@ -82,7 +82,7 @@ invariant-of-self c =
           full.few,
           (
             count_marked full part c.from.result c.from.ensures is.0 is.1 unmarked,
-            (omega (arith, full.bounded, few c.args.words.now c.in-default.ensures), tt),
+            (omega (arith, full.bounded, few c.args.words.now c.in_default.ensures), tt),
           ),
         ),
       ),
@@ -94,7 +94,7 @@ returns c ds b =
     let full = c.place.new.self in
     let num = c.in-ok-part.ensures in
     described_as ds _ _ _ (Ok tt) (split words _ c.requires.some)
-    (described_done b num.0 num.1 (rest words) (fine words _ c.requires.some c.in-default.ensures) c.in-ok-place.ensures
+    (described_done b num.0 num.1 (rest words) (fine words _ c.requires.some c.in_default.ensures) c.in-ok-place.ensures
     (record {
       names = refl;
       slots = refl;
@@ -102,4 +102,4 @@ returns c ds b =
       lined = refl;
       referred = ap (λ n. full.references + n) (sym (long words));
     })
-    (omega (arith, few words c.in-default.ensures, long words)))
+    (omega (arith, few words c.in_default.ensures, long words)))

@@ -9,4 +9,4 @@ returns-in-Some c =
 
 pub loop-i-preserved : goal.loop-i-preserved
 loop-i-preserved c =
-    first_none c.args.self.now c.args.c c.loop-i.i c.saturating-sub-skip.result (omega arith) c.loop-i.invariant c.in-default.ensures
+    first_none c.args.self.now c.args.c c.loop-i.i c.saturating-sub-skip.result (omega arith) c.loop-i.invariant c.in_default.ensures
