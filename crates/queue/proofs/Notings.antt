@@ -1,7 +1,7 @@
 -- What a note does to a queue. Assumes nothing.
 use Rattle.std.proofs.Common.{◌≡◌, ℕ, ◌+◌, ◌<◌, ◌≤◌, min, List, [], ◌∷◌, ◌++◌, reverse, length, take, set, refl, ap, ◌∙◌, arith}
 use Rattle.ledgers.specs.Meaning.{Ops, InRange}
-use Rattle.queue.specs.Queues.{held, waiting_notes, emptied, note_of, Passed, QueueNotes}
+use Rattle.queue.specs.Queues.{waiting_notes, emptied, note_of, Passed, QueueNotes}
 use Rattle.queue.specs.declared.queue.Note.{Note}
 use Rattle.queue.specs.declared.queue.Notes.{Notes}
 use Rattle.queue.specs.declared.queue.Queue.{Queue}

@@ -11,7 +11,7 @@ describe-requires c =
     record { some = omega (arith, some, c.deref.ensures.len, c.deref-2.ensures.len) }
 
 pub returns-in-err-words : goal.returns-in-err-words
-returns-in-err-words c ds _ = no_memory ds c.args.line.now c.args.drawing.now c.from-residual.result c.from-residual.ensures.1
+returns-in-err-words c ds _ = no_memory ds c.args.line.now c.args.drawing.now c.from_residual.result c.from_residual.ensures.1
 
 pub returns-then-is-passed : goal.returns-then-is-passed
 returns-then-is-passed c ds h =

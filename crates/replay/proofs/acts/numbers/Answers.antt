@@ -11,7 +11,7 @@ loop-i-preserved g c =
     let l = c.args.ledger.now in
     let old = vec_items c.loop-i.numbers in
     let size = c.loop-i.invariant.0 in
-    let pushed = chosen _ _ _ _ c.push.ensures.items (ap is_ok c.in-ok-push.was) in (
+    let pushed = chosen _ _ _ _ c.push.ensures.items (ap is_ok c.in_ok-push.was) in (
       ap length pushed ∙ length_push old c.number.result ∙ ap (λ (k : ℕ). k + 1) size,
       λ t f. subst (λ (v : List (Option ℕ)). (k : ℕ) → k < length v → Numbered o l (k + 1) (get_or v k None)) (sym pushed)
           (numbered_more old c.number.result c.loop-i.i size (c.number.ensures t f.agrees) (c.loop-i.invariant.1 t f)),

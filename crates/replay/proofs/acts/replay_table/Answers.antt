@@ -5,19 +5,19 @@ use Rattle.replay.proofs.acts.replay_table.Goals as goal
 
 pub zeros-requires : goal.zeros-requires
 zeros-requires g c =
-    let s = settled g.L.Ledger.laws c.settle.ensures c.in-ok-n.ensures.1 in
+    let s = settled g.L.Ledger.laws c.settle.ensures c.in_ok-n.ensures.1 in
     record { follows = (_, s.0); settled = s.1 }
 
 pub returns : goal.returns
 returns g c =
-    let f = c.in-ok-n.ensures in
+    let f = c.in_ok-n.ensures in
     let s = settled g.L.Ledger.laws c.settle.ensures f.1 in
-    let answers : Replayed = record { waiting = c.waiting-waiting.result; numbers = c.in-ok-numbers.numbers; zeros = c.in-ok-zeros.zeros } in
-    let replays : Replays g.L.Ledger.ops c.in-ok-n.n (edited c.args.slots.now c.args.edits.now) c.settle.new.self answers = record {
+    let answers : Replayed = record { waiting = c.waiting-waiting.result; numbers = c.in_ok-numbers.numbers; zeros = c.in_ok-zeros.zeros } in
+    let replays : Replays g.L.Ledger.ops c.in_ok-n.n (edited c.args.slots.now c.args.edits.now) c.settle.new.self answers = record {
       follows = s.0;
       settled = s.1;
       waited = (_, c.settle.ensures, c.waiting-waiting.ensures);
-      numbers = c.in-ok-numbers.ensures (_, s.0) s.1;
-      zeros = c.in-ok-zeros.ensures;
+      numbers = c.in_ok-numbers.ensures (_, s.0) s.1;
+      zeros = c.in_ok-zeros.ensures;
     } in
-    record { ledger = (c.in-ok-n.n, f.0, replays); kept = kept g.L.Ledger.laws f.0 replays }
+    record { ledger = (c.in_ok-n.n, f.0, replays); kept = kept g.L.Ledger.laws f.0 replays }

@@ -17,7 +17,7 @@ pub loop-c-preserved : goal.loop-c-preserved
 loop-c-preserved g c =
     let f = c.requires.follows.1 in
     let next = c.in-Some.ensures c.requires.follows.0 f.agrees in
-    let pushed = chosen _ _ _ _ c.push.ensures.items (ap is_ok c.in-ok-push.was) in (
+    let pushed = chosen _ _ _ _ c.push.ensures.items (ap is_ok c.in_ok-push.was) in (
       omega arith,
       omega (arith, next.cell.1, f.cells),
       subst (ListedBelow g.L.Ledger.ops c.args.n c.args.ledger.now (c.in-Some.c + 1)) (sym pushed)

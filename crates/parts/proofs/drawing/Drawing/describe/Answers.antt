@@ -29,7 +29,7 @@ fine words d h e = subst (λ l. fault_in l ≡ None) (split words d h) (sym e)
 
 pub returns-in-err-part : goal.returns-in-err-part
 returns-in-err-part c ds b =
-    let p = err_from_is_err_and c.from-residual.result c.from-residual.ensures.1 in
+    let p = err_from_is_err_and c.from_residual.result c.from_residual.ensures.1 in
     let words = c.args.words.now in
     let e = c.in-err-part.field-0.0 in
     rw (p.1, p.2)
@@ -47,7 +47,7 @@ place-requires c =
 
 pub returns-in-err-place : goal.returns-in-err-place
 returns-in-err-place c ds b =
-    let p = err_from_is_err_and c.from-residual-in-err-place.result c.from-residual-in-err-place.ensures.1 in
+    let p = err_from_is_err_and c.from_residual-in-err-place.result c.from_residual-in-err-place.ensures.1 in
     let words = c.args.words.now in
     let e = c.in-err-place.field-0.0 in
     let num = c.in-ok-part.ensures in
@@ -55,8 +55,8 @@ returns-in-err-place c ds b =
     (described_as ds _ _ c.place.new.self (Err e) (split words _ c.requires.some)
     (described_crowded b num.0 num.1 (rest words) (fine words _ c.requires.some c.in_default.ensures) c.place.new.self e c.in-err-place.ensures))
 
-pub index-mut-requires : goal.index-mut-requires
-index-mut-requires c =
+pub index_mut-requires : goal.index_mut-requires
+index_mut-requires c =
     let full = c.place.new.self in
     let is = c.in-ok-part.ensures.0.called in
     omega (arith, c.from.ensures, is.0, is.1, grown_long {after = full} c.in-ok-place.ensures.grown, parts full, full.marked)

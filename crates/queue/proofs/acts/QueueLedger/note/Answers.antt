@@ -7,12 +7,12 @@ use Rattle.queue.specs.declared.queue.Queue.{Queue}
 use Rattle.queue.proofs.acts.QueueLedger.note.Goals as goal
 use Rattle.queue.proofs.acts.QueueLedger.note.Goals.{then-self-ge-ROOM, else-self-ge-ROOM}
 
-pub returns-then-not-in-range : goal.returns-then-not-in-range
-returns-then-not-in-range g c =
+pub returns-then-not-in_range : goal.returns-then-not-in_range
+returns-then-not-in_range g c =
     stays g.L.Ledger.ops c.args.slot c.args.old c.args.new c.args.self.now
     (λ range.
     let n = c.cells.ensures in
-    both_ways c.in_range.result c.if-not-in-range.true
+    both_ways c.in_range.result c.if-not-in_range.true
     (c.in_range.ensures.1 (omega (arith, n, range.0), omega (arith, n, range.1), omega (arith, n, range.2))))
 
 pub returns : goal.returns
@@ -20,7 +20,7 @@ returns g c =
     let o = g.L.Ledger.ops in
     let q = c.args.self.now in
     let n = c.cells.ensures in
-    let inside = c.in_range.ensures.0 c.if-not-in-range.false in
+    let inside = c.in_range.ensures.0 c.if-not-in_range.false in
     let range : InRange o q.below c.args.slot c.args.old c.args.new = (omega (arith, n, inside.0), omega (arith, n, inside.1), omega (arith, n, inside.2)) in
     let long : length c.if-self-ge-ROOM.self.inner.at ≡ 64 = search rules in
     let now-queue = c.if-self-ge-ROOM.self in
