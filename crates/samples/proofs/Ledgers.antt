@@ -1,5 +1,5 @@
 -- The samples of ledgers. Assumes nothing.
-use Rattle.std.proofs.Common.{◌≡◌, ℕ, ◌≤◌, min, List, [], ◌∷◌, ◌++◌, length, take, sym, refl, ap, ◌∙◌, subst, arith}
+use Rattle.std.proofs.Common.{◌≡◌, ℕ, ◌≤◌, min, List, [], ◌∷◌, ◌++◌, length, take, refl, ap, ◌∙◌, subst, arith}
 use Rattle.coalescing.specs.Logs.{Coalesced, LogNotes, Passed, Unlogged, WellFormed, again, entries, entry_of, other, with_latest}
 use Rattle.coalescing.specs.declared.log.Entry.{Entry}
 use Rattle.coalescing.specs.declared.log.Log.{Log}

@@ -1,10 +1,10 @@
 -- Every stack over a lawful ledger stands, by induction over its layers. Assumes nothing.
-use mathlib.Core.List.{List, [], ◌∷◌}
+use mathlib.Core.List.{[], ◌∷◌}
 use mathlib.Core.Path.{◌≡◌, refl, ◌∙◌}
 use Rattle.coalescing.specs.LogLaws.{log_lawful}
 use Rattle.ledgers.specs.Meaning.{Ops, Lawful}
 use Rattle.queue.specs.QueueLaws.{queue_lawful}
-use Rattle.stacks.specs.Stacks.{Layer, queue, log, zeros, Over, over_ops, Stack, stack_ops, Stands, EveryStackStands}
+use Rattle.stacks.specs.Stacks.{Layer, queue, log, zeros, over_ops, Stack, stack_ops, EveryStackStands}
 use Rattle.zeros.specs.ZeroLaws.{zeros_lawful}
 
 over_lawful : (k : Layer) (L : Type 0) (o : Ops L) → Lawful o → Lawful (over_ops k L o)
