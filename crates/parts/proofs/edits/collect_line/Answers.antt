@@ -15,8 +15,8 @@ pub returns-in-Ok : goal.returns-in-Ok
 returns-in-Ok c =
     let names = known c.args.drawing.now in
     let edit = c.in-Ok.edit in
-    let first = ap (map (λ w. w.now)) c.deref.ensures.value ∙ c.in-ok-words.ensures in
-    let second = ap (map (λ w. w.now)) c.deref-2.ensures.value ∙ c.in-ok-words.ensures in
+    let first = ap (map (λ w. w.now)) c.deref.ensures.value ∙ c.in_ok-words.ensures in
+    let second = ap (map (λ w. w.now)) c.deref-2.ensures.value ∙ c.in_ok-words.ensures in
     let good = subst (λ ws. (edit_fault names ws ≡ None) × Makes names ws edit) second c.in-Ok.ensures in
-    one_edited names _ _ _ edit (sym (c.if-not-is-edit.ensures ∙ ap is_edit first)) good.0 good.1
-    (c.push-reserved.ensures.items ∙ ap (λ l. l ++ edit ∷ []) c.reserve.ensures.items)
+    one_edited names _ _ _ edit (sym (c.if-not-is_edit.ensures ∙ ap is_edit first)) good.0 good.1
+    (c.push_reserved.ensures.items ∙ ap (λ l. l ++ edit ∷ []) c.reserve.ensures.items)

@@ -57,9 +57,9 @@ returns c =
     let at = c.in-Some.ensures in
     let word = first words _ c.requires in
     let part = c.in-Some-find.ensures in
-    let put = c.in-Some-new-content.ensures in
+    let put = c.in-Some-new_content.ensures in
     let long = length-map words (λ w. w.now) in (
-      no_fault names (bytes words) (few words c.if-words-gt-MOST-WORDS.false) (ap is_slot word ∙ at.0)
+      no_fault names (bytes words) (few words c.if-words-gt-MOST_WORDS.false) (ap is_slot word ∙ at.0)
           (subst (Has names) (at.1 ∙ ap owner (sym word)) (has_called names _ _ part))
           (λ l. has_called names _ _ (put.0 (omega (arith, l, long)))),
       record {

@@ -11,4 +11,4 @@ returns-then-is-idle c =
 
 pub returns : goal.returns
 returns c =
-    edit_by_second (λ w. w.now) c.args.words.now _ _ c.if-words-lt2.false (sym c.if-is-idle.ensures) (slice_eq-Decides Decides-eqb _ _ _ c.eq.ensures)
+    edit_by_second (λ w. w.now) c.args.words.now _ _ c.if-words-lt2.false (sym c.if-is_idle.ensures) (slice_eq-Decides Decides-eqb _ _ _ c.eq.ensures)

@@ -13,7 +13,7 @@ returns-then-not-is-ascii-graphic c =
     ap not (hit _ _ _ _ c.loop-byte.invariant 0 c.loop-byte-test.true (ap not (graphic (get_or c.args.name.now c.loop-byte.byte-index 0) ∙ sym c.if-not-is-ascii-graphic.ensures.value)))
 
 pub loop-byte-preserved : goal.loop-byte-preserved
-loop-byte-preserved c = miss _ _ _ _ c.loop-byte.invariant 0 c.loop-byte-test.true (ap not (graphic (get_or c.args.name.now c.loop-byte.byte-index 0) ∙ sym c.if-not-is-ascii-graphic.ensures.value))
+loop-byte-preserved c = miss _ _ _ _ c.loop-byte.invariant 0 c.loop-byte-test.true (ap not (graphic (get_or c.args.name.now c.loop-byte.byte-index 0) ∙ sym c.if-not-is_ascii_graphic.ensures.value))
 
 pub returns : goal.returns
 returns c = ap not (over _ _ _ _ c.loop-byte.invariant c.loop-byte-test.false)

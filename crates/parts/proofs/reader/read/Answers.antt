@@ -12,7 +12,7 @@ loop-error-init c = none_done c.args.text.now c.new-drawing.result c.new-drawing
 pub returns-in-Err : goal.returns-in-Err
 returns-in-Err c =
     subst (λ e. Reads c.args.text.now (Err e)) (sym c.at_line.ensures)
-    (stopped c.args.text.now _ _ _ c.loop-error.drawing c.loop-error.invariant _ c.cut.ensures c.read-line.new.drawing _ (c.in-Err.ensures (descriptions (take c.loop-error.above (lines c.args.text.now))) c.loop-error.invariant.built))
+    (stopped c.args.text.now _ _ _ c.loop-error.drawing c.loop-error.invariant _ c.cut.ensures c.read_line.new.drawing _ (c.in-Err.ensures (descriptions (take c.loop-error.above (lines c.args.text.now))) c.loop-error.invariant.built))
 
 pub returns-in-default-more : goal.returns-in-default-more
 returns-in-default-more c =
@@ -21,5 +21,5 @@ returns-in-default-more c =
 
 pub loop-error-preserved : goal.loop-error-preserved
 loop-error-preserved c =
-    one_more c.args.text.now _ _ _ c.loop-error.drawing c.loop-error.invariant _ (c.in-default.ensures (descriptions (take c.loop-error.above (lines c.args.text.now))) c.loop-error.invariant.built) c.in-Some.below.now
+    one_more c.args.text.now _ _ _ c.loop-error.drawing c.loop-error.invariant _ (c.in_default.ensures (descriptions (take c.loop-error.above (lines c.args.text.now))) c.loop-error.invariant.built) c.in-Some.below.now
     (subst (Cut newline _ _) c.in-Some.is c.cut.ensures)

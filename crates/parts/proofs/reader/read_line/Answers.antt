@@ -7,7 +7,7 @@ use Rattle.parts.proofs.reader.read_line.Goals as goal
 
 pub describe-requires : goal.describe-requires
 describe-requires c =
-    let some = some_word (λ w. w.now) c.deref.result.now (sym c.if-is-passed.ensures) in
+    let some = some_word (λ w. w.now) c.deref.result.now (sym c.if-is_passed.ensures) in
     record { some = omega (arith, some, c.deref.ensures.len, c.deref-2.ensures.len) }
 
 pub returns-in-err-words : goal.returns-in-err-words
@@ -20,7 +20,7 @@ returns-then-is-passed c ds h =
 
 pub returns : goal.returns
 returns c ds h =
-    let first = ap (map (λ w. w.now)) c.deref.ensures.value ∙ c.in-ok-words.ensures in
-    let second = ap (map (λ w. w.now)) c.deref-2.ensures.value ∙ c.in-ok-words.ensures in
-    described_line ds c.args.line.now c.describe.new.self c.describe.result (sym (c.if-is-passed.ensures ∙ ap passed first))
+    let first = ap (map (λ w. w.now)) c.deref.ensures.value ∙ c.in_ok-words.ensures in
+    let second = ap (map (λ w. w.now)) c.deref-2.ensures.value ∙ c.in_ok-words.ensures in
+    described_line ds c.args.line.now c.describe.new.self c.describe.result (sym (c.if-is_passed.ensures ∙ ap passed first))
     (subst (λ ws. Described ds ws c.describe.new.self c.describe.result) second (c.describe.ensures ds h))

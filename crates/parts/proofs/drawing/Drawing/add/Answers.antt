@@ -32,9 +32,9 @@ pub returns : goal.returns
 returns c =
     numbered_new {w = c.args.name} {before = c.args.self.now}
     (record {
-      names = c.push-reserved.ensures.items ∙ ap (λ l. l ++ c.args.name ∷ []) c.reserve.ensures.items;
-      slots = c.in-ok-extend-from-slice.ensures.items;
-      described = c.push-reserved-2.ensures.items ∙ ap (λ l. l ++ false ∷ []) c.reserve-2.ensures.items;
+      names = c.push_reserved.ensures.items ∙ ap (λ l. l ++ c.args.name ∷ []) c.reserve.ensures.items;
+      slots = c.in_ok-extend_from_slice.ensures.items;
+      described = c.push_reserved-2.ensures.items ∙ ap (λ l. l ++ false ∷ []) c.reserve-2.ensures.items;
       lined = refl;
       referred = refl;
     })

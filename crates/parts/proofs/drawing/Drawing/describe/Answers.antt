@@ -39,10 +39,10 @@ returns-in-err-part c ds b =
 pub place-requires : goal.place-requires
 place-requires c =
     let words = c.args.words.now in
-    let is = c.in-ok-part.ensures.0.called in
+    let is = c.in_ok-part.ensures.0.called in
     record {
       is_part = (is.0, is.1);
-      fits = omega (arith, few words c.in-default.ensures, ap length (take_rest words 1), length-drop 1 words);
+      fits = omega (arith, few words c.in_default.ensures, ap length (take_rest words 1), length-drop 1 words);
     }
 
 pub returns-in-err-place : goal.returns-in-err-place
@@ -92,9 +92,9 @@ pub returns : goal.returns
 returns c ds b =
     let words = c.args.words.now in
     let full = c.place.new.self in
-    let num = c.in-ok-part.ensures in
+    let num = c.in_ok-part.ensures in
     described_as ds _ _ _ (Ok tt) (split words _ c.requires.some)
-    (described_done b num.0 num.1 (rest words) (fine words _ c.requires.some c.in-default.ensures) c.in-ok-place.ensures
+    (described_done b num.0 num.1 (rest words) (fine words _ c.requires.some c.in_default.ensures) c.in_ok-place.ensures
     (record {
       names = refl;
       slots = refl;
@@ -102,4 +102,4 @@ returns c ds b =
       lined = refl;
       referred = ap (λ n. full.references + n) (sym (long words));
     })
-    (omega (arith, few words c.in-default.ensures, long words)))
+    (omega (arith, few words c.in_default.ensures, long words)))

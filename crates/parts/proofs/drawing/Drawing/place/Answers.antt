@@ -30,9 +30,9 @@ pub loop-slot-preserved : goal.loop-slot-preserved
 loop-slot-preserved c =
     let names = c.args.names.now in
     let i = c.loop-slot.slot in
-    let number = c.in-ok-number.number in
+    let number = c.in_ok-number.number in
     filled_more c.args.part i number (bytes names) c.loop-slot.invariant
-    (subst (λ w. Numbered w c.loop-slot.self c.number.new.self number) (sym (get_or-map (λ w. w.now) names i _ [] c.loop-slot-test.true)) c.in-ok-number.ensures)
+    (subst (λ w. Numbered w c.loop-slot.self c.number.new.self number) (sym (get_or-map (λ w. w.now) names i _ [] c.loop-slot-test.true)) c.in_ok-number.ensures)
     (record {
       names = refl;
       slots = ap (λ k. set (vec_items c.number.new.self.slots) (4 * (k - 1) + i) number) c.from.ensures;

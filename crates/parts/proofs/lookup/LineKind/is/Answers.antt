@@ -19,7 +19,7 @@ by_first kind name words d r is told some same =
     ∙ ap (λ (b : Bool). not b && bytes_eq (subject (bytes words)) (name)) (sym told) ∙ ap (λ (k : LineKind). is_sought k name (bytes words)) (sym is)
 
 pub bounds-words-0 : goal.bounds-words-0
-bounds-words-0 c = let some = some_word (λ w. w.now) c.args.words.now (sym c.if-not-is-passed-2.ensures) in omega arith
+bounds-words-0 c = let some = some_word (λ w. w.now) c.args.words.now (sym c.if-not-is_passed-2.ensures) in omega arith
 
 pub returns-then-not-is-passed-2 : goal.returns-then-not-is-passed-2
 returns-then-not-is-passed-2 c =
