@@ -6,9 +6,9 @@ use Rattle.parts.proofs.Collecting.{one_edited}
 use Rattle.parts.proofs.Comments.{edit_long}
 use Rattle.parts.proofs.edits.collect_line.Goals as goal
 
-pub edit-by-requires : goal.edit-by-requires
-edit-by-requires c =
-    let long = edit_long (λ w. w.now) c.deref.result.now (sym c.if-not-is-edit.ensures) in
+pub edit_by-requires : goal.edit_by-requires
+edit_by-requires c =
+    let long = edit_long (λ w. w.now) c.deref.result.now (sym c.if-not-is_edit.ensures) in
     omega (arith, long, c.deref.ensures.len, c.deref-2.ensures.len)
 
 pub returns-in-Ok : goal.returns-in-Ok

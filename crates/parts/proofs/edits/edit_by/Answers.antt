@@ -16,37 +16,37 @@ first words d some = get_or-map (λ w. w.now) words 0 d [] some
 few : (words : List (Bor (List ℕ))) → length words ≤ 3 → length (bytes words) ≤ 3
 few words h = rw length-map h
 
-pub returns-then-words-gt-MOST-WORDS : goal.returns-then-words-gt-MOST-WORDS
-returns-then-words-gt-MOST-WORDS c = too_long (known c.args.drawing.now) (bytes c.args.words.now) (rw length-map c.if-words-gt-MOST-WORDS.true)
+pub returns-then-words-gt-MOST_WORDS : goal.returns-then-words-gt-MOST_WORDS
+returns-then-words-gt-MOST_WORDS c = too_long (known c.args.drawing.now) (bytes c.args.words.now) (rw length-map c.if-words-gt-MOST_WORDS.true)
 
-pub returns-in-default : goal.returns-in-default
-returns-in-default c =
+pub returns-in_default : goal.returns-in_default
+returns-in_default c =
     let words = c.args.words.now in
-    no_slot (known c.args.drawing.now) (bytes words) (ap is_slot (first words _ c.requires) ∙ c.in-default.ensures.0)
+    no_slot (known c.args.drawing.now) (bytes words) (ap is_slot (first words _ c.requires) ∙ c.in_default.ensures.0)
 
-pub returns-in-default-find : goal.returns-in-default-find
-returns-in-default-find c =
+pub returns-in_default-find : goal.returns-in_default-find
+returns-in_default-find c =
     let words = c.args.words.now in
     let names = known c.args.drawing.now in
     let at = c.in-Some.ensures in
     let word = first words _ c.requires in
-    no_owner names (bytes words) (few words c.if-words-gt-MOST-WORDS.false) (ap is_slot word ∙ at.0)
-    (λ h. c.in-default-find.ensures (subst (Has names) (ap owner word ∙ sym at.1) h))
+    no_owner names (bytes words) (few words c.if-words-gt-MOST_WORDS.false) (ap is_slot word ∙ at.0)
+    (λ h. c.in_default-find.ensures (subst (Has names) (ap owner word ∙ sym at.1) h))
 
-pub returns-in-default-new-content : goal.returns-in-default-new-content
-returns-in-default-new-content c =
+pub returns-in_default-new_content : goal.returns-in_default-new_content
+returns-in_default-new_content c =
     let words = c.args.words.now in
-    let none = c.in-default-new-content.ensures in
-    no_other (known c.args.drawing.now) (bytes words) (few words c.if-words-gt-MOST-WORDS.false) (ap is_slot (first words _ c.requires) ∙ c.in-Some.ensures.0)
+    let none = c.in_default-new_content.ensures in
+    no_other (known c.args.drawing.now) (bytes words) (few words c.if-words-gt-MOST_WORDS.false) (ap is_slot (first words _ c.requires) ∙ c.in-Some.ensures.0)
     (rw length-map none.0) none.1
 
-pub overflow-mul-slot : goal.overflow-mul-slot
-overflow-mul-slot c =
+pub overflow_mul-slot : goal.overflow_mul-slot
+overflow_mul-slot c =
     let drawing = c.args.drawing.now in
     omega (arith, c.in-Some-find.ensures.0, c.in-Some-find.ensures.1, parts drawing, drawing.few)
 
-pub overflow-add-slot : goal.overflow-add-slot
-overflow-add-slot c =
+pub overflow_add-slot : goal.overflow_add-slot
+overflow_add-slot c =
     let drawing = c.args.drawing.now in
     omega (arith, c.in-Some-find.ensures.0, c.in-Some-find.ensures.1, parts drawing, drawing.few, c.from.ensures, c.in-Some.ensures.2.small)
 

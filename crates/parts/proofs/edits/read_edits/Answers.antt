@@ -14,10 +14,10 @@ returns-in-Err c =
     subst (Unedited (known c.args.drawing.now) (lines c.args.text.now)) (sym c.at_line.ensures)
     (stopped (known c.args.drawing.now) c.args.text.now _ _ _ (vec_items c.loop-error.edits) (vec_items c.collect_line.new.edits) c.loop-error.invariant _ c.cut.ensures _ c.in-Err.ensures)
 
-pub returns-in-default-more : goal.returns-in-default-more
-returns-in-default-more c =
-    all_done (known c.args.drawing.now) c.args.text.now _ _ _ (vec_items c.loop-error.edits) (vec_items c.collect-line.new.edits) c.loop-error.invariant c.in-default.ensures
-    (subst (Cut newline _ _) c.in-default-more.is c.cut.ensures)
+pub returns-in_default-more : goal.returns-in_default-more
+returns-in_default-more c =
+    all_done (known c.args.drawing.now) c.args.text.now _ _ _ (vec_items c.loop-error.edits) (vec_items c.collect_line.new.edits) c.loop-error.invariant c.in_default.ensures
+    (subst (Cut newline _ _) c.in_default-more.is c.cut.ensures)
 
 pub loop-error-preserved : goal.loop-error-preserved
 loop-error-preserved c =

@@ -15,5 +15,5 @@ returns-in-48-to-51 c =
     let high : get_or w (length w - 1) 0 ≤ 51 = omega arith in
     rw sub-zero (slot_tested w c.if-n-lt3.false dot low high, refl, slot_written w c.if-n-lt3.false dot low high)
 
-pub returns-in-default : goal.returns-in-default
-returns-in-default c = let none : is_slot c.args.word.now ≡ false = search rules in (none, slotless _ none)
+pub returns-in_default : goal.returns-in_default
+returns-in_default c = let none : is_slot c.args.word.now ≡ false = search rules in (none, slotless _ none)

@@ -5,9 +5,9 @@ use Rattle.parts.proofs.Comments.{edit_idle, edit_short, edit_by_second}
 use Rattle.parts.proofs.kinds.is_edit.Goals as goal
 use Rattle.std.proofs.lemmas.Bool.Decides.{Decides-eqb}
 
-pub returns-then-is-idle : goal.returns-then-is-idle
-returns-then-is-idle c =
-    ⊎_elim (λ e. edit_idle (bytes c.args.words.now) (sym c.is-idle.ensures ∙ e)) (λ h. edit_short (λ w. w.now) c.args.words.now h.1) c.then-is-idle.either
+pub returns-then-is_idle : goal.returns-then-is_idle
+returns-then-is_idle c =
+    ⊎_elim (λ e. edit_idle (bytes c.args.words.now) (sym c.is_idle.ensures ∙ e)) (λ h. edit_short (λ w. w.now) c.args.words.now h.1) c.then-is_idle.either
 
 pub returns : goal.returns
 returns c =

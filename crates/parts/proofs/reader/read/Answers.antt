@@ -14,10 +14,10 @@ returns-in-Err c =
     subst (λ e. Reads c.args.text.now (Err e)) (sym c.at_line.ensures)
     (stopped c.args.text.now _ _ _ c.loop-error.drawing c.loop-error.invariant _ c.cut.ensures c.read_line.new.drawing _ (c.in-Err.ensures (descriptions (take c.loop-error.above (lines c.args.text.now))) c.loop-error.invariant.built))
 
-pub returns-in-default-more : goal.returns-in-default-more
-returns-in-default-more c =
-    all_done c.args.text.now _ _ _ c.loop-error.drawing c.loop-error.invariant _ (c.in-default.ensures (descriptions (take c.loop-error.above (lines c.args.text.now))) c.loop-error.invariant.built)
-    (subst (Cut newline _ _) c.in-default-more.is c.cut.ensures)
+pub returns-in_default-more : goal.returns-in_default-more
+returns-in_default-more c =
+    all_done c.args.text.now _ _ _ c.loop-error.drawing c.loop-error.invariant _ (c.in_default.ensures (descriptions (take c.loop-error.above (lines c.args.text.now))) c.loop-error.invariant.built)
+    (subst (Cut newline _ _) c.in_default-more.is c.cut.ensures)
 
 pub loop-error-preserved : goal.loop-error-preserved
 loop-error-preserved c =

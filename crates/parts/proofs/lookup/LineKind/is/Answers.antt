@@ -21,7 +21,7 @@ by_first kind name words d r is told some same =
 pub bounds-words-0 : goal.bounds-words-0
 bounds-words-0 c = let some = some_word (λ w. w.now) c.args.words.now (sym c.if-not-is_passed-2.ensures) in omega arith
 
-pub returns-then-not-is-passed-2 : goal.returns-then-not-is-passed-2
-returns-then-not-is-passed-2 c =
-    by_first c.args.self c.args.name.now c.args.words.now _ _ c.in-Description.is (sym c.if-not-is-passed-2.ensures)
-    (some_word (λ w. w.now) c.args.words.now (sym c.if-not-is-passed-2.ensures)) (slice_eq-Decides Decides-eqb _ _ _ c.eq.ensures)
+pub returns-then-not-is_passed-2 : goal.returns-then-not-is_passed-2
+returns-then-not-is_passed-2 c =
+    by_first c.args.self c.args.name.now c.args.words.now _ _ c.in-Description.is (sym c.if-not-is_passed-2.ensures)
+    (some_word (λ w. w.now) c.args.words.now (sym c.if-not-is_passed-2.ensures)) (slice_eq-Decides Decides-eqb _ _ _ c.eq.ensures)
