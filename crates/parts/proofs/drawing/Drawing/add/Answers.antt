@@ -17,16 +17,14 @@ invariant_of-self-2 c =
     let names = c.push_reserved.ensures.len ∙ ap (λ n. n + 1) c.reserve.ensures.len in
     let described = c.push_reserved-2.ensures.len ∙ ap (λ n. n + 1) c.reserve-2.ensures.len in
     let slots = c.in_ok-extend_from_slice.ensures.len in
-    let marks = c.push_reserved-2.ensures.items ∙ ap (λ l. l ++ false ∷ []) c.reserve-2.ensures.items in (
-      omega (arith, names, slots, old.slotted),
-      (
-        omega (arith, names, described, old.marked),
-        (
-          omega (arith, names, old.few, c.len.ensures, c.if-len-eq-MOST_PARTS.false),
-          (old.counted ∙ sym (ap (count_by (λ b. b)) marks ∙ count_unmarked (vec_items old.described)), (old.bounded, tt)),
-        ),
-      ),
-    )
+    let marks = c.push_reserved-2.ensures.items ∙ ap (λ l. l ++ false ∷ []) c.reserve-2.ensures.items in
+    record {
+      slotted = omega (arith, names, slots, old.slotted);
+      marked = omega (arith, names, described, old.marked);
+      few = omega (arith, names, old.few, c.len.ensures, c.if-len-eq-MOST_PARTS.false);
+      counted = old.counted ∙ sym (ap (count_by (λ b. b)) marks ∙ count_unmarked (vec_items old.described));
+      bounded = old.bounded;
+    }
 
 pub returns : goal.returns
 returns c =

@@ -74,19 +74,14 @@ invariant_of-self c =
     let fill = c.in_ok-place.ensures in
     let part = c.in_ok-part.part in
     let is = called_grown {after = full} fill.grown part _ num.0.called in
-    let unmarked : mark full part ≡ false = fill.grown.told (part - 1) ∙ num.1 in (
-      full.slotted,
-      (
-        full.marked,
-        (
-          full.few,
-          (
-            count_marked full part c.from.result c.from.ensures is.0 is.1 unmarked,
-            (omega (arith, full.bounded, few c.args.words.now c.in_default.ensures), tt),
-          ),
-        ),
-      ),
-    )
+    let unmarked : mark full part ≡ false = fill.grown.told (part - 1) ∙ num.1 in
+    record {
+      slotted = full.slotted;
+      marked = full.marked;
+      few = full.few;
+      counted = count_marked full part c.from.result c.from.ensures is.0 is.1 unmarked;
+      bounded = omega (arith, full.bounded, few c.args.words.now c.in_default.ensures);
+    }
 
 pub returns : goal.returns
 returns c ds b =
