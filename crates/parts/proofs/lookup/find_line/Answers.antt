@@ -1,4 +1,4 @@
-use Rattle.std.proofs.Common.{◌≡◌, ℕ, ◌≤◌, map, sym, ap, ◌∙◌, subst, inl, inr, arith}
+use Rattle.std.proofs.Common.{map, sym, ap, ◌∙◌, subst, inl, inr, arith}
 use Rattle.parts.proofs.Finding.{Passed, stopped, one_more, all_done}
 use Rattle.parts.specs.Finds.{is_sought}
 use Rattle.parts.specs.Separators.{Cut}
