@@ -1,4 +1,4 @@
-use Rattle.std.proofs.Common.{◌≡◌, ℕ, ◌+◌, ◌≤◌, List, is_ok, vec_items, sym, ap, ◌∙◌, subst, arith, rules}
+use Rattle.std.proofs.Common.{◌+◌, is_ok, vec_items, sym, ap, subst, arith, rules}
 use Rattle.replay.proofs.Following.{ListedBelow, listed_more, listed_all}
 use Rattle.std.proofs.ResultArms.{chosen}
 use Rattle.replay.proofs.acts.zeros.Goals as goal
