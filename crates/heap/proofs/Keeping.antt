@@ -1,5 +1,5 @@
 -- What each call keeps, by its relation.
-use Rattle.std.proofs.Common.{◌≡◌, ℕ, ◌-◌, ◌*◌, ◌<◌, ◌≤◌, Bool, true, false, cond, eqb, List, [], ◌∷◌, get_or, set, Some, None, Ok, Err, Option, Result, sym, refl, ap, ◌∙◌, subst, inl, inr, ⊎_elim, arith}
+use Rattle.std.proofs.Common.{◌≡◌, ℕ, ◌*◌, ◌<◌, ◌≤◌, Bool, true, false, cond, eqb, List, [], ◌∷◌, get_or, set, Some, None, Ok, Err, Option, Result, sym, refl, ap, ◌∙◌, subst, inl, inr, ⊎_elim, arith}
 use lib.Seq.{set-get_or}
 use Rattle.heap.proofs.WellFormed.{given_formed, given_used, hold_formed, root_formed, sized_formed, slot_formed}
 use Rattle.heap.specs.Calls.{Clear, Copy, Hold, Load, New, Release, Size, Store, Turned, given, root, size_checks, slot_of, store_checks, with_hold, with_root, with_slot}

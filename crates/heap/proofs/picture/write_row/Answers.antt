@@ -14,13 +14,13 @@ loop-content-preserved g c plain =
     let i = c.loop-content.content-index in
     let w : i < length xs = omega arith in
     let before = c.loop-content.invariant plain in
-    has_written_of_eq _ _ _ _ _ (marks_more xs i w) (has_written_append _ _ _ _ _ _ before (c.in-ok-write-mark.ensures before.plain refl))
+    has_written_of_eq _ _ _ _ _ (marks_more xs i w) (has_written_append _ _ _ _ _ _ before (c.in_ok-write_mark.ensures before.plain refl))
 
 pub returns : goal.returns
 returns g c plain ok =
     let xs = c.args.contents.now in
     let i = c.loop-content.content-index in
     let past : length xs ≤ i = omega arith in
-    let colon = c.in-ok-write-str.ensures.writes plain refl in
+    let colon = c.in_ok-write_str.ensures.writes plain refl in
     let all = has_written_of_eq _ _ _ _ _ (ap marks (take_all i xs past)) (c.loop-content.invariant colon.plain) in
-    has_written_append _ _ _ _ _ _ colon (has_written_append _ _ _ _ _ _ all (c.write-str-2.ensures.writes all.plain ok))
+    has_written_append _ _ _ _ _ _ colon (has_written_append _ _ _ _ _ _ all (c.write_str-2.ensures.writes all.plain ok))

@@ -11,7 +11,7 @@ pub returns-in-Ok : goal.returns-in-Ok
 returns-in-Ok g t c =
     let held = c.in-Ok.ensures.does in
     let opened = held.0.state in
-    let closed = c.take-back.ensures in
+    let closed = c.take_back.ensures in
     let k = c.in-Ok.token.hold in
     record {
       cells = ap (λ (s : State). s.graph.cells) closed ∙ c.nest-number.ensures.cells ∙ ap (λ (s : State). s.graph.cells) opened;

@@ -8,4 +8,4 @@ returns-in-Some c =
 
 pub returns-in-None : goal.returns-in-None
 returns-in-None c =
-    found_round c.args.self.now c.min.result c.min.ensures c.in-None.ensures c.first-clear-in-None.result c.first-clear-in-None.ensures
+    found_round c.args.self.now c.min.result c.min.ensures c.in-None.ensures c.first_clear-in-None.result c.first_clear-in-None.ensures

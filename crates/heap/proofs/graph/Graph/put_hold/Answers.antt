@@ -11,5 +11,5 @@ returns c =
       safe = record { small = safe.small; slots = safe.slots; roots = safe.roots; holds = within_set t.n c.args.k c.args.c t.holds safe.holds c.requires.cell };
       cells = refl;
       put = get_or-set_same t.holds c.args.k c.args.c 0 (search rules);
-      does = same_suspects _ _ _ _ (c.give-up.ensures t.n (safe.holds c.args.k));
+      does = same_suspects _ _ _ _ (c.give_up.ensures t.n (safe.holds c.args.k));
     }

@@ -8,5 +8,5 @@ returns c =
     let safe = c.requires.safe in
     record {
       safe = record { small = safe.small; slots = safe.slots; roots = within_set t.n c.args.r c.args.c t.roots safe.roots c.requires.cell; holds = safe.holds };
-      does = same_suspects _ _ _ _ (c.give-up.ensures t.n (safe.roots c.args.r));
+      does = same_suspects _ _ _ _ (c.give_up.ensures t.n (safe.roots c.args.r));
     }

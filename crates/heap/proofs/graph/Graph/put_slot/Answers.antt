@@ -8,5 +8,5 @@ returns c =
     let safe = c.requires.safe in
     record {
       safe = record { small = safe.small; slots = within_set t.n c.args.i c.args.c t.slots safe.slots c.requires.cell; roots = safe.roots; holds = safe.holds };
-      does = view_slot t c.args.i c.args.c _ c.requires.slot (c.give-up.ensures t.n (safe.slots c.args.i));
+      does = view_slot t c.args.i c.args.c _ c.requires.slot (c.give_up.ensures t.n (safe.slots c.args.i));
     }

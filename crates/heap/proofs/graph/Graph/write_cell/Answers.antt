@@ -15,6 +15,6 @@ returns g c plain ok =
     let t = c.args.self.now in
     let slots : List ℕ = c.content.result ∷ c.content-2.result ∷ c.content-3.result ∷ c.content-4.result ∷ [] in
     let same : slots ≡ slots_of (view t).graph c.args.c = cc (c.content.ensures.does, c.content-2.ensures.does, c.content-3.ensures.does, c.content-4.ensures.does) in
-    let number = c.in-ok-write.ensures.shows plain refl in
+    let number = c.in_ok-write.ensures.writes plain refl in
     has_written_of_eq _ _ _ _ _ (used_row t c.args.c c.requires.least c.requires.most (sym c.if-not-test.ensures))
-    (has_written_append _ _ _ _ _ _ number (has_written_of_eq _ _ _ _ _ (ap row same) (c.write-row.ensures number.plain ok)))
+    (has_written_append _ _ _ _ _ _ number (has_written_of_eq _ _ _ _ _ (ap row same) (c.write_row.ensures number.plain ok)))

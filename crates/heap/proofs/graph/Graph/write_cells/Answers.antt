@@ -7,4 +7,4 @@ use Rattle.heap.proofs.graph.Graph.write_cells.Goals as goal
 pub loop-i-preserved : goal.loop-i-preserved
 loop-i-preserved g c plain =
     let before = c.loop-i.invariant plain in
-    has_written_of_eq _ _ _ _ _ (rows_more (view c.args.self.now) c.loop-i.i) (has_written_append _ _ _ _ _ _ before (c.in-ok-write-cell.ensures before.plain refl))
+    has_written_of_eq _ _ _ _ _ (rows_more (view c.args.self.now) c.loop-i.i) (has_written_append _ _ _ _ _ _ before (c.in_ok-write_cell.ensures before.plain refl))

@@ -9,7 +9,7 @@ pub returns : goal.returns
 returns g c =
     let o = g.L.Ledger.ops in
     let s = state c.args.self.now in
-    let s' = view c.put-hold.new.self in
+    let s' = view c.put_hold.new.self in
     let l = c.args.ledger.now in
     let t : Token = record { hold = c.in-Some.hold; cell = get_or s.graph.roots c.args.r 0 } in
     let does : Hold o c.args.r s l (Ok t) s' l = search rules in

@@ -8,7 +8,7 @@ pub returns : goal.returns
 returns g c =
     let o = g.L.Ledger.ops in
     let s = state c.args.self.now in
-    let s' = view c.put-root.new.self in
+    let s' = view c.put_root.new.self in
     let l = c.args.ledger.now in
     let does : Load o c.args.r c.args.s c.args.f s l (Ok tt) s' l = search rules in
     record { does = does; kept = tt; keeps = load_keeps o c.args.r c.args.s c.args.f s s' l l (Ok tt) does }

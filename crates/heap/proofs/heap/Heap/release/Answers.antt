@@ -8,7 +8,7 @@ pub returns : goal.returns
 returns g c =
     let o = g.L.Ledger.ops in
     let s = state c.args.self.now in
-    let s' = view c.put-hold.new.self in
+    let s' = view c.put_hold.new.self in
     let l = c.args.ledger.now in
     let does : Release o c.args.token s l (Ok tt) s' l = search rules in
     record { does = does; kept = tt; keeps = release_keeps o c.args.token s s' l l (Ok tt) does }

@@ -10,7 +10,7 @@ pub returns-then-old-new : goal.returns-then-old-new
 returns-then-old-new g c =
     let o = g.L.Ledger.ops in
     let s = state c.args.self.now in
-    let s' = view c.put-slot.new.self in
+    let s' = view c.put_slot.new.self in
     let l = c.args.ledger.now in
     let l' = c.note.new.self in
     let does : Store o c.args.r c.args.f c.args.s s l (Ok tt) s' l' = search rules in
