@@ -12,7 +12,7 @@ use Rattle.refusals.specs.declared.refusal.Refusal.{Refusal}
 use Rattle.heap.specs.declared.token.Token.{Token}
 use Rattle.ledgers.specs.Meaning.{InRange, Lawful, Ops}
 use Rattle.std.proofs.lemmas.Bool.{cases_Bool, eqb-false, eqb-true, ltb-false}
-use Rattle.std.specs.List.{AllByRecursion}
+use Rattle.std.specs.List.{AllByRecursion as All}
 
 -- A root that is not empty contains a cell in use.
 full_root : (s : State) (r : ℕ) → (root s r ≡ 0 → ⊥) → WellFormed s → Used s.graph (root s r)
@@ -23,7 +23,7 @@ one_passed : (b : Bool) (e : Refusal) (rest : Option Refusal) → cond b (Some e
 one_passed true e rest h = let z : ◌≡◌ {A = ℕ} 0 1 = cc in absurd (omega arith)
 one_passed false e rest h = (refl, h)
 
-passed : (cs : List Check) → cause_of cs ≡ None → AllByRecursion (λ c. c.fails ≡ false) cs
+passed : (cs : List Check) → cause_of cs ≡ None → All (λ c. c.fails ≡ false) cs
 passed [] h = tt
 passed (c ∷ cs) h = let p = one_passed c.fails c.cause (cause_of cs) h in (p.0, passed cs p.1)
 
