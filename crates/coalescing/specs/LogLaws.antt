@@ -11,7 +11,7 @@ use Rattle.ledgers.specs.Tables.{Table, holders, Cell}
 use Rattle.std.proofs.ByRecursion.{All-get_or, All-from_get_or, All-push, All-set}
 use Rattle.std.proofs.lemmas.List.{length-set, length-append, get_or-set_same, get_or-set_other, set-get_or, set-set, set_comm}
 use Rattle.std.proofs.lemmas.Bool.{cases_eq, cases_lt}
-use Rattle.std.specs.List.{AllByRecursion as All}
+use Rattle.std.specs.List.{AllByRecursion}
 
 length_put_back : (es : List Entry) (t : List ℕ) → length (put_back es t) ≡ length t
 length_put_back [] t = refl
@@ -60,7 +60,7 @@ put_back_new es s old new t was =
     put_back_append es (entry_of s old new ∷ []) (slice_set t s new)
     ∙ ap (put_back es) (set-set t s new old ∙ ap (set t s) (sym was) ∙ set-get_or t s 0)
 
-stands_other : (n s new : ℕ) (t : List ℕ) (es : List Entry) → Unlogged s es → All (Stands n t) es → All (Stands n (slice_set t s new)) es
+stands_other : (n s new : ℕ) (t : List ℕ) (es : List Entry) → Unlogged s es → AllByRecursion (Stands n t) es → AllByRecursion (Stands n (slice_set t s new)) es
 stands_other n s new t [] free stand = tt
 stands_other n s new t (e ∷ es) free stand =
     let now = stand.0 in (
@@ -74,7 +74,7 @@ stands_other n s new t (e ∷ es) free stand =
     )
 
 stands_again : (n k s new : ℕ) (t : List ℕ) (es : List Entry) → OneASlot es → Logged k s es → s < length t → new ≤ n
-    → All (Stands n t) es → All (Stands n (slice_set t s new)) (with_latest k new es)
+    → AllByRecursion (Stands n t) es → AllByRecursion (Stands n (slice_set t s new)) (with_latest k new es)
 stands_again n k s new t [] one at lt le stand = tt
 stands_again n zero s new t (e ∷ es) one at lt le stand =
     let now = stand.0 in (
@@ -84,7 +84,7 @@ stands_again n zero s new t (e ∷ es) one at lt le stand =
         latest_in = le;
         contains = ap (λ (x : ℕ). slice_index (slice_set t s new) x) at.1 ∙ get_or-set_same t s new 0 lt;
       },
-      subst (λ (x : ℕ). All (Stands n (slice_set t x new)) es) at.1 (stands_other n e.slot new t es one.0 stand.1),
+      subst (λ (x : ℕ). AllByRecursion (Stands n (slice_set t x new)) es) at.1 (stands_other n e.slot new t es one.0 stand.1),
     )
 stands_again n (suc k) s new t (e ∷ es) one at lt le stand =
     let now = stand.0 in
@@ -176,7 +176,7 @@ module _ {L : Type 0} {o : Ops L} (p : Lawful o) where
       (cases_eq e.first e.latest)
 
   -- once all entries are down, the ledger below agrees with the table
-  passed_agrees : (n : ℕ) (es : List Entry) (l l' : L) (t : List ℕ) → Passed o es l l' → o.cells l ≡ n → o.Agrees l (put_back es t) → OneASlot es → All (Stands n t) es
+  passed_agrees : (n : ℕ) (es : List Entry) (l l' : L) (t : List ℕ) → Passed o es l l' → o.cells l ≡ n → o.Agrees l (put_back es t) → OneASlot es → AllByRecursion (Stands n t) es
       → o.Agrees l' t × SameShape o l l'
   passed_agrees n [] l l' t passed is ag one stand = (subst (λ (x : L). o.Agrees x t) (sym passed) ag, shape_refl passed)
   passed_agrees n (e ∷ es) l l' t passed is ag one stand =
@@ -200,7 +200,7 @@ module _ {L : Type 0} {o : Ops L} (p : Lawful o) where
       record {
         formed = well_formed g.inner (omega arith) (λ k lt. let short = ap length empty in absurd (omega arith));
         table = p.table g.below t ag;
-        stand = subst (All (Stands (o.cells g.below) t)) (sym empty) tt;
+        stand = subst (AllByRecursion (Stands (o.cells g.below) t)) (sym empty) tt;
         below = subst (λ (es : List Entry). o.Agrees g.below (put_back es t)) (sym empty) ag;
       }
 
@@ -213,7 +213,7 @@ module _ {L : Type 0} {o : Ops L} (p : Lawful o) where
   -- after a note that is taken: the ledger below has not changed and agrees with the same table, or all went down before
   pub record Followed (s new : ℕ) (t : List ℕ) (g g' : Log L) : Type 0 where
     pub shape : SameShape o g.below g'.below
-    pub stand : All (Stands (o.cells g.below) (slice_set t s new)) (entries g'.inner)
+    pub stand : AllByRecursion (Stands (o.cells g.below) (slice_set t s new)) (entries g'.inner)
     pub down : ((g'.below ≡ g.below) × (put_back (entries g'.inner) (slice_set t s new) ≡ put_back (entries g.inner) t))
         ⊎ (Passed o (entries g.inner) g.below g'.below × (put_back (entries g'.inner) (slice_set t s new) ≡ t))
 
@@ -233,7 +233,7 @@ module _ {L : Type 0} {o : Ops L} (p : Lawful o) where
       let lies : s < length t = omega (arith, range.1, ag.table.size) in
       record {
         shape = shape_refl same;
-        stand = subst (All (Stands n (slice_set t s new))) (sym is) (stands_again n k s new t es one at lies range.3 ag.stand);
+        stand = subst (AllByRecursion (Stands n (slice_set t s new))) (sym is) (stands_again n k s new t es one at lies range.3 ag.stand);
         down = inl (same, ap (λ (fs : List Entry). put_back fs (slice_set t s new)) is ∙ put_back_again es k s new t one at);
       }
   followed s old new t g g' (other free added) range ag was =
@@ -245,14 +245,14 @@ module _ {L : Type 0} {o : Ops L} (p : Lawful o) where
       let room = added.room lt in
       record {
         shape = shape_refl room.1;
-        stand = subst (All (Stands n (slice_set t s new))) (sym room.0) (All-push (Stands n (slice_set t s new)) es (entry_of s old new) (stands_other n s new t es free ag.stand) new_stands);
+        stand = subst (AllByRecursion (Stands n (slice_set t s new))) (sym room.0) (All-push (Stands n (slice_set t s new)) es (entry_of s old new) (stands_other n s new t es free ag.stand) new_stands);
         down = inl (room.1, ap (λ (fs : List Entry). put_back fs (slice_set t s new)) room.0 ∙ put_back_new es s old new t was);
       })
       (λ (ge : 64 ≤ size g.inner).
       let full = added.full (omega arith) in
       record {
         shape = (all_down g g'.below t ag full.1).1;
-        stand = subst (All (Stands n (slice_set t s new))) (sym full.0) (new_stands, tt);
+        stand = subst (AllByRecursion (Stands n (slice_set t s new))) (sym full.0) (new_stands, tt);
         down = inr (full.1, ap (λ (fs : List Entry). put_back fs (slice_set t s new)) full.0 ∙ put_back_new [] s old new t was);
       })
       (cases_lt (size g.inner) 64)
@@ -282,7 +282,7 @@ module _ {L : Type 0} {o : Ops L} (p : Lawful o) where
       record {
         formed = done.1;
         table = subst (λ (k : ℕ). Table k (slice_set t s new)) same (table_set n s new t ag.table range.2);
-        stand = subst (λ (k : ℕ). All (Stands k (slice_set t s new)) (entries g'.inner)) same after.stand;
+        stand = subst (λ (k : ℕ). AllByRecursion (Stands k (slice_set t s new)) (entries g'.inner)) same after.stand;
         below = ⊎_elim
             (λ stays. subst (o.Agrees g'.below) (sym stays.1) (subst (λ (x : L). o.Agrees x (put_back (entries g.inner) t)) (sym stays.0) ag.below))
             (λ went. subst (o.Agrees g'.below) (sym went.1) (all_down g g'.below t ag went.0).0)
@@ -381,7 +381,7 @@ module _ {L : Type 0} {o : Ops L} (p : Lawful o) where
       (cases_eq (log_waiting o g) 0)
 
   -- Entries whose latest content is 0, gone down, are notes that empty slots.
-  passed_emptied : (u : List ℕ) (b : L) (n : ℕ) (es : List Entry) (l l' : L) (t : List ℕ) → length t ≡ 4 * n → Passed o es l l' → OneASlot es → All (Stands n t) es → All (λ e. e.latest ≡ 0) es
+  passed_emptied : (u : List ℕ) (b : L) (n : ℕ) (es : List Entry) (l l' : L) (t : List ℕ) → length t ≡ 4 * n → Passed o es l l' → OneASlot es → AllByRecursion (Stands n t) es → AllByRecursion (λ e. e.latest ≡ 0) es
       → Emptied o u b (put_back es t) l → Emptied o u b t l'
   passed_emptied u b n [] l l' t size passed one stand zeros chain = subst (λ (x : L). Emptied o u b t x) (sym passed) chain
   passed_emptied u b n (e ∷ es) l l' t size passed one stand zeros chain =
@@ -406,16 +406,16 @@ module _ {L : Type 0} {o : Ops L} (p : Lawful o) where
   -- While slots are emptied, every latest content is 0, and what went down is a chain of its own from where all began.
   pub record Draining (u : List ℕ) (b : L) (t : List ℕ) (g : Log L) : Type 0 where
     pub agrees : LogAgrees o g t
-    pub zeros : All (λ e. e.latest ≡ 0) (entries g.inner)
+    pub zeros : AllByRecursion (λ e. e.latest ≡ 0) (entries g.inner)
     pub chain : Emptied o u b (put_back (entries g.inner) t) g.below
 
-  zeros_after : (s old : ℕ) (g g' : Log L) → Coalesced o s old 0 g g' → All (λ e. e.latest ≡ 0) (entries g.inner) → All (λ e. e.latest ≡ 0) (entries g'.inner)
+  zeros_after : (s old : ℕ) (g g' : Log L) → Coalesced o s old 0 g g' → AllByRecursion (λ e. e.latest ≡ 0) (entries g.inner) → AllByRecursion (λ e. e.latest ≡ 0) (entries g'.inner)
   zeros_after s old g g' (again k at is same) zeros =
-      subst (All (λ e. e.latest ≡ 0)) (sym is) (All-set (λ e. e.latest ≡ 0) (entries g.inner) k _ refl zeros)
+      subst (AllByRecursion (λ e. e.latest ≡ 0)) (sym is) (All-set (λ e. e.latest ≡ 0) (entries g.inner) k _ refl zeros)
   zeros_after s old g g' (other free added) zeros =
       ⊎_elim
-      (λ (lt : size g.inner < 64). subst (All (λ e. e.latest ≡ 0)) (sym (added.room lt).0) (All-push (λ e. e.latest ≡ 0) (entries g.inner) (entry_of s old 0) zeros refl))
-      (λ (ge : 64 ≤ size g.inner). subst (All (λ e. e.latest ≡ 0)) (sym (added.full (omega arith)).0) (refl, tt))
+      (λ (lt : size g.inner < 64). subst (AllByRecursion (λ e. e.latest ≡ 0)) (sym (added.room lt).0) (All-push (λ e. e.latest ≡ 0) (entries g.inner) (entry_of s old 0) zeros refl))
+      (λ (ge : 64 ≤ size g.inner). subst (AllByRecursion (λ e. e.latest ≡ 0)) (sym (added.full (omega arith)).0) (refl, tt))
       (cases_lt (size g.inner) 64)
 
   gone_down : (u : List ℕ) (b : L) (t : List ℕ) (g : Log L) (l' : L) → Draining u b t g → Passed o (entries g.inner) g.below l' → Emptied o u b t l'
@@ -447,7 +447,7 @@ module _ {L : Type 0} {o : Ops L} (p : Lawful o) where
       let empty = settled_empty g z in
       let start : Draining t g.below t g = record {
         agrees = ag;
-        zeros = subst (All (λ e. e.latest ≡ 0)) (sym empty) tt;
+        zeros = subst (AllByRecursion (λ e. e.latest ≡ 0)) (sym empty) tt;
         chain = subst (λ (es : List Entry). Emptied o t g.below (put_back es t) g.below) (sym empty) none;
       } in
       let end = drain_all t g.below notes start in

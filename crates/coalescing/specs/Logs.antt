@@ -5,7 +5,7 @@ use Rattle.coalescing.specs.declared.log.Entry.{Entry}
 use Rattle.coalescing.specs.declared.log.Log.{Log}
 use Rattle.ledgers.specs.Meaning.{Ops}
 use Rattle.ledgers.specs.Tables.{Table}
-use Rattle.std.specs.List.{AllByRecursion as All}
+use Rattle.std.specs.List.{AllByRecursion}
 
 -- An entry by its parts.
 abbrev pub entry_of : ℕ → ℕ → ℕ → Entry
@@ -29,7 +29,7 @@ emptied e = record { at = e.at; len = 0; index = e.index }
 
 -- No entry names the slot s.
 abbrev pub Unlogged : ℕ → List Entry → Type 0
-Unlogged s es = All (λ e. e.slot ≢ s) es
+Unlogged s es = AllByRecursion (λ e. e.slot ≢ s) es
 
 -- No two entries name the same slot.
 abbrev pub OneASlot : List Entry → Type 0
@@ -90,7 +90,7 @@ module _ {L : Type 0} (o : Ops L) where
   pub record LogAgrees (g : Log L) (t : List ℕ) : Type 0 where
     pub formed : WellFormed g.inner
     pub table : Table (o.cells g.below) t
-    pub stand : All (Stands (o.cells g.below) t) (entries g.inner)
+    pub stand : AllByRecursion (Stands (o.cells g.below) t) (entries g.inner)
     pub below : o.Agrees g.below (put_back (entries g.inner) t)
 
   -- An entry comes in last. If 64 are there, all go down first.

@@ -5,6 +5,7 @@ use counts::{Count, Exact, ExactRow, Sticky, StickyRow, Tally, TallyRow};
 use parts::{Drawing, Edit};
 use replay::{Replayed, keep};
 use std::io::Read;
+use std::process::ExitCode;
 use std::{fmt, str};
 
 /// What a count answered, for people: its number, or `stuck`.
@@ -87,10 +88,11 @@ fn run(rt: &HostRuntime) -> anyhow::Result<()> {
     Ok(())
 }
 
-fn main(rt: HostRuntime) -> anyhow::Result<()> {
-    let outcome = run(&rt);
-    if let Err(error) = &outcome {
-        eprintln!(rt; "{error}")?;
-    }
-    outcome
+fn main(rt: HostRuntime) -> ExitCode {
+    let Err(error) = run(&rt) else {
+        return ExitCode::SUCCESS;
+    };
+    // Where the refusal can't be printed either, the status alone tells of it.
+    let _ = eprintln!(rt; "{error}");
+    ExitCode::FAILURE
 }

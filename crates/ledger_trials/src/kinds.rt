@@ -1,5 +1,6 @@
 //! The kinds of count.
 use counts::{Count, Exact, ExactRow, Sticky, StickyRow, Tally, TallyRow};
+use std::fmt;
 
 /// A kind of count whose rows can be filled with any bytes.
 pub trait Kind: Count {
@@ -25,6 +26,24 @@ impl Kind for Tally {
     fn row(bits: u16) -> TallyRow {
         TallyRow {
             ones: (bits & 0xff) as u8,
+        }
+    }
+}
+
+/// A kind of count by name.
+#[derive(Clone, Copy, Debug)]
+pub enum KindName {
+    Exact,
+    Sticky,
+    Tally,
+}
+
+impl fmt::Display for KindName {
+    fn fmt<W: fmt::Write>(&self, f: &mut fmt::Formatter<W>) -> fmt::Result {
+        match *self {
+            KindName::Exact => write!(f, "exact"),
+            KindName::Sticky => write!(f, "sticky"),
+            KindName::Tally => write!(f, "tally"),
         }
     }
 }

@@ -11,15 +11,16 @@ mod trial;
 
 use anyhow::anyhow;
 use counts::{Exact, ExactRow, Sticky, StickyRow, Tally, TallyRow};
+use kinds::KindName;
 use stacks::every_stack;
 use trial::{Course, Fault, ROOM};
 
 fn every_kind(course: &mut Course) -> Result<(), Fault> {
-    course.kind = "exact";
+    course.kind = KindName::Exact;
     every_stack::<Exact>(&mut [ExactRow { value: 0 }; ROOM as usize], course)?;
-    course.kind = "sticky";
+    course.kind = KindName::Sticky;
     every_stack::<Sticky>(&mut [StickyRow { value: 0 }; ROOM as usize], course)?;
-    course.kind = "tally";
+    course.kind = KindName::Tally;
     every_stack::<Tally>(&mut [TallyRow { ones: 0 }; ROOM as usize], course)
 }
 

@@ -1,4 +1,5 @@
 //! One trial: random notes to a ledger, whose answers are compared with a plain count.
+use super::kinds::KindName;
 use super::plain::Plain;
 use super::random::Random;
 use super::sight::Sight;
@@ -57,7 +58,7 @@ impl fmt::Display for Fault {
 pub struct Course {
     heap: Global,
     random: Random,
-    pub kind: &'static str,
+    pub kind: KindName,
     pub stack: Stack,
     pub round: u32,
     pub stacks: u32,
@@ -71,7 +72,7 @@ impl Course {
         Course {
             heap,
             random: Random::new(0),
-            kind: "",
+            kind: KindName::Exact,
             stack: Stack::Bare,
             round: 0,
             stacks: 0,

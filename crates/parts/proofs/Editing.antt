@@ -1,6 +1,6 @@
 -- What one edit says of a drawing's slots, and what is wrong with it. Assumes nothing.
 use Rattle.std.proofs.Common.{◌≡◌, ℕ, ◌+◌, ◌-◌, ◌<◌, ◌≤◌, Bool, true, false, cond, not, ◌&&◌, ◌||◌, ltb, List, [], ◌∷◌, ◌++◌, length, get_or, take, Some, None, sym, refl, ap, ◌∙◌, ⊎_elim, arith}
-use Rattle.std.specs.List.{ContainsAt as Has, AllByRecursion as All}
+use Rattle.std.specs.List.{ContainsAt as Has, AllByRecursion}
 use Rattle.std.proofs.lemmas.List.{take-append-drop, drop_more, drop_all, length-append, length-take-le, get_or_at, get_or-append_right}
 use Rattle.std.proofs.lemmas.Bool.{both_ways, cases_lt, and_from, and_left, and_right, or_from, or_left, or_right, not_from_true, not_from_false, cond-true, cond-false, lt-ltb, le-ltb, eq-eqb}
 use Rattle.parts.specs.Drawn.{subject}
@@ -97,7 +97,7 @@ module _ (names : List Bytes) where
     content = ⊎_elim (λ l. (m.filled l).1) (λ g. omega (arith, m.emptied g)) (cases_lt 2 (length ws));
   }
 
-  pub make_within : (wss : List (List Bytes)) (es : List Edit) → Make names wss es → All (Within (length names)) es
+  pub make_within : (wss : List (List Bytes)) (es : List Edit) → Make names wss es → AllByRecursion (Within (length names)) es
   make_within [] [] h = tt
   make_within [] (e ∷ es) h = absurd h
   make_within (ws ∷ wss) [] h = absurd h

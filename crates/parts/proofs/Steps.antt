@@ -1,6 +1,6 @@
 -- What a drawing shows after one more description. Assumes nothing.
 use Rattle.std.proofs.Common.{◌≡◌, ℕ, ◌+◌, ◌-◌, ◌*◌, ◌<◌, ◌≤◌, Bool, true, false, ◌||◌, ◌≢◌, List, [], ◌∷◌, ◌++◌, length, get_or, fold, sym, refl, ap, ◌∙◌, subst, ⊎_elim, add-one, arith}
-use Rattle.std.specs.List.{ContainsAt as Has, AllByRecursion as All}
+use Rattle.std.specs.List.{ContainsAt as Has, AllByRecursion}
 use Rattle.std.specs.Str.{bytes_eq}
 use Rattle.std.proofs.ByRecursion.{All-push, All-weaker}
 use Rattle.std.proofs.lemmas.List.{get_or_append_left, get_or_past}
@@ -11,11 +11,11 @@ use Rattle.parts.specs.Faults.{any}
 use Rattle.parts.specs.Text.{Bytes}
 use Rattle.parts.proofs.Firsts.{same_yes, same_no, differ, Distinct, firsts_more, folded_more, folded_long, called_as, called_folded, called_once, called_has, has_called, has_folded}
 
-all_both : {X : Type 0} (P Q : X → Type 0) (xs : List X) → All P xs → All Q xs → All (λ x. P x × Q x) xs
+all_both : {X : Type 0} (P Q : X → Type 0) (xs : List X) → AllByRecursion P xs → AllByRecursion Q xs → AllByRecursion (λ x. P x × Q x) xs
 all_both P Q [] p q = tt
 all_both P Q (x ∷ xs) p q = ((p.0, q.0), all_both P Q xs p.1 q.1)
 
-all_front : {X : Type 0} (P : X → Type 0) (xs : List X) (x : X) → All P (xs ++ x ∷ []) → All P xs × P x
+all_front : {X : Type 0} (P : X → Type 0) (xs : List X) (x : X) → AllByRecursion P (xs ++ x ∷ []) → AllByRecursion P xs × P x
 all_front P [] x h = (tt, h.0)
 all_front P (y ∷ xs) x h = let rest = all_front P xs x h.1 in ((h.0, rest.0), rest.1)
 
@@ -32,13 +32,13 @@ any_push p [] x = or_none (p x)
 any_push p (y ∷ xs) x = ap (λ b. p y || b) (any_push p xs x) ∙ or_assoc (p y) (any p xs) (p x)
 
 -- no description is about a name that is no part
-pub about_unknown : (names : List Bytes) (w : Bytes) (ds : List (List Bytes)) → All (λ d. Has names (subject d)) ds → (Has names w → ⊥) → about w ds ≡ false
+pub about_unknown : (names : List Bytes) (w : Bytes) (ds : List (List Bytes)) → AllByRecursion (λ d. Has names (subject d)) ds → (Has names w → ⊥) → about w ds ≡ false
 about_unknown names w [] h n = refl
 about_unknown names w (d ∷ ds) h n =
     let apart : bytes_eq (subject d) w ≡ false = same_no (subject d) w (λ e. n (subst (Has names) e h.0)) in
     rw apart (about_unknown names w ds h.1 n)
 
-pub about_none : (w : Bytes) (ds : List (List Bytes)) → about w ds ≡ false → All (λ d. subject d ≢ w) ds
+pub about_none : (w : Bytes) (ds : List (List Bytes)) → about w ds ≡ false → AllByRecursion (λ d. subject d ≢ w) ds
 about_none w [] f = tt
 about_none w (d ∷ ds) f = let both = or_parts (bytes_eq (subject d) w) (about w ds) f in (differ (subject d) w both.0, about_none w ds both.1)
 
@@ -54,7 +54,7 @@ pub record Step (ds : List (List Bytes)) (w : Bytes) (rest : List Bytes) (part :
   pub others : (i : ℕ) → ((f : ℕ) → f < length rest → i ≡ 4 * (part - 1) + f → ⊥) → get_or slots' i 0 ≡ get_or slots i 0
 
 module _ {ds : List (List Bytes)} {w : Bytes} {rest : List Bytes} {part : ℕ} {names names' : List Bytes} {slots slots' : List ℕ}
-    (old : Drawn ds names slots) (subjects : All (λ d. Has names (subject d)) ds) (step : Step ds w rest part names names' slots slots') where
+    (old : Drawn ds names slots) (subjects : AllByRecursion (λ d. Has names (subject d)) ds) (step : Step ds w rest part names names' slots slots') where
   longer : length names ≤ length names'
   longer = omega (arith, ap length step.named, folded_long names (w ∷ rest))
 
@@ -88,7 +88,7 @@ module _ {ds : List (List Bytes)} {w : Bytes} {rest : List Bytes} {part : ℕ} {
       ⊎_elim (none_past part f)
       (λ known.
       let name = sym (front (part - 1) (omega (arith, known, step.called.0))) ∙ step.called.2 in
-      old.bare part step.called.0 known (subst (λ v. All (λ d. subject d ≢ v) ds) (sym name) (about_none w ds step.fresh)) f small)
+      old.bare part step.called.0 known (subst (λ v. AllByRecursion (λ d. subject d ≢ v) ds) (sym name) (about_none w ds step.fresh)) f small)
       (cases_lt (length names) part)
 
   placed_new : Placed names' slots' (w ∷ rest)
@@ -99,13 +99,13 @@ module _ {ds : List (List Bytes)} {w : Bytes} {rest : List Bytes} {part : ℕ} {
         λ l. sym slot ∙ step.others (4 * (part - 1) + f) (λ g h e. omega (arith, l, h, e)) ∙ empty_before f small,
       )
 
-  bare_still : (c : ℕ) → 1 ≤ c → c ≤ length names' → All (λ d. subject d ≢ get_or names' (c - 1) []) (ds ++ (w ∷ rest) ∷ []) → (f : ℕ) → f < 4 → content slots' c f ≡ 0
+  bare_still : (c : ℕ) → 1 ≤ c → c ≤ length names' → AllByRecursion (λ d. subject d ≢ get_or names' (c - 1) []) (ds ++ (w ∷ rest) ∷ []) → (f : ℕ) → f < 4 → content slots' c f ≡ 0
   bare_still c some is none f small =
       let both = all_front (λ d. subject d ≢ get_or names' (c - 1) []) ds (w ∷ rest) none in
       let other : c ≡ part → ⊥ = λ e. both.1 (sym step.called.2 ∙ ap (λ k. get_or names' (k - 1) []) (sym e)) in
       kept c f some other small
       ∙ ⊎_elim (none_past c f)
-      (λ known. old.bare c some known (subst (λ v. All (λ d. subject d ≢ v) ds) (front (c - 1) (omega (arith, known, some))) both.0) f small)
+      (λ known. old.bare c some known (subst (λ v. AllByRecursion (λ d. subject d ≢ v) ds) (front (c - 1) (omega (arith, known, some))) both.0) f small)
       (cases_lt (length names) c)
 
   pub drawn_more : Drawn (ds ++ (w ∷ rest) ∷ []) names' slots'
@@ -120,7 +120,7 @@ module _ {ds : List (List Bytes)} {w : Bytes} {rest : List Bytes} {part : ℕ} {
     bare = bare_still;
   }
 
-  pub subjects_more : All (λ d. Has names' (subject d)) (ds ++ (w ∷ rest) ∷ [])
+  pub subjects_more : AllByRecursion (λ d. Has names' (subject d)) (ds ++ (w ∷ rest) ∷ [])
   subjects_more =
       All-push (λ d. Has names' (subject d)) ds (w ∷ rest)
       (All-weaker (λ d. Has names (subject d)) (λ d. Has names' (subject d)) (λ d h. subst (λ l. Has l (subject d)) (sym step.named) (has_folded names (w ∷ rest) (subject d) h)) ds subjects)

@@ -1,7 +1,7 @@
 -- A drawing between two descriptions, and what one more description makes of it.
 use Rattle.std.specs.Prelude.{◌≡◌, ℕ, ◌+◌, ◌-◌, ◌*◌, ◌<◌, ◌≤◌, Bool, true, false, cond, ◌⊎◌, List, [], ◌∷◌, ◌++◌, map, length, Some, None, Ok, Err, vec_items, fold, Option, Result, ◌≢◌, nat_lt, slice_index, slice_index_or}
 use Rattle.std.specs.Borrow.{Bor}
-use Rattle.std.specs.List.{ContainsAt as Has, AllByRecursion as All}
+use Rattle.std.specs.List.{ContainsAt as Has, AllByRecursion}
 use Rattle.std.specs.Str.{bytes_eq}
 use Rattle.parts.specs.Text.{Bytes}
 use Rattle.parts.specs.Drawn.{subject, references, Called, content, Drawn}
@@ -34,7 +34,7 @@ pub record Building (ds : List (List Bytes)) (d : Drawing) : Type 0 where
   pub lined : d.lines ≡ length ds
   pub referred : d.references ≡ references ds
   -- the subject of each description is a part
-  pub subjects : All (λ ws. Has (known d) (subject ws)) ds
+  pub subjects : AllByRecursion (λ ws. Has (known d) (subject ws)) ds
   -- a part's mark says whether a description is about it
   pub told : (k : ℕ) → k < length (known d) → slice_index_or (vec_items d.described) k false ≡ about (slice_index_or (known d) k []) ds
   pub within : (i : ℕ) → slice_index (vec_items d.slots) i ≤ length (known d)

@@ -1,6 +1,6 @@
 -- What a drawing's text says: its parts by name, and which part points to which.
 use Rattle.std.specs.Prelude.{◌≡◌, ℕ, ◌+◌, ◌-◌, ◌*◌, ◌<◌, ◌≤◌, Bool, true, not, ◌&&◌, ◌||◌, ◌≢◌, List, [], ◌∷◌, map, length, codes, sum_by, filter, ◌==◌, slice_index, slice_index_or}
-use Rattle.std.specs.List.{flat_map, AllByRecursion as All}
+use Rattle.std.specs.List.{flat_map, AllByRecursion}
 use Rattle.std.specs.Str.{bytes_eq}
 use Rattle.parts.specs.Text.{Bytes, words}
 
@@ -57,6 +57,6 @@ pub record Drawn (ds : List (List Bytes)) (names : List Bytes) (slots : List ℕ
   pub named : names ≡ firsts (mentions ds)
   -- four slots a part
   pub size : length slots ≡ 4 * length names
-  pub placed : All (Placed names slots) ds
+  pub placed : AllByRecursion (Placed names slots) ds
   -- a part that is mentioned and not described points to none
-  pub bare : (c : ℕ) → 1 ≤ c → c ≤ length names → All (λ ws. subject ws ≢ slice_index_or names (c - 1) []) ds → (f : ℕ) → f < 4 → content slots c f ≡ 0
+  pub bare : (c : ℕ) → 1 ≤ c → c ≤ length names → AllByRecursion (λ ws. subject ws ≢ slice_index_or names (c - 1) []) ds → (f : ℕ) → f < 4 → content slots c f ≡ 0

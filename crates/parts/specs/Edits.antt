@@ -1,6 +1,6 @@
 -- The edits of a drawing's slots that a text makes, and what is wrong with one that makes none.
 use Rattle.std.specs.Prelude.{◌≡◌, ℕ, ◌+◌, ◌-◌, ◌*◌, ◌<◌, ◌≤◌, Bool, cond, not, ◌&&◌, ◌||◌, List, [], ◌∷◌, ◌++◌, map, length, take, Some, None, Ok, Err, filter, Option, Result, ◌==◌, nat_lt, slice_index, slice_index_or}
-use Rattle.std.specs.List.{AllByRecursion as All}
+use Rattle.std.specs.List.{AllByRecursion}
 use Rattle.std.specs.Str.{bytes_eq}
 use Rattle.parts.specs.Drawn.{is_edit, subject, Called}
 use Rattle.parts.specs.Faults.{any, check, first_fault}
@@ -82,7 +82,7 @@ Clean names ls j = (i : ℕ) → i < j → edit_fault_at names ls i ≡ None
 pub record Edited (names ls : List Bytes) (es : List Edit) : Type 0 where
   pub clean : Clean names ls (length ls)
   pub made : Make names (edit_lines ls) es
-  pub within : All (Within (length names)) es
+  pub within : AllByRecursion (Within (length names)) es
 
 -- Line n, counted from 1, is the first whose edit has a fault.
 pub record Misedited (names ls : List Bytes) (n : ℕ) (e : Fault) : Type 0 where

@@ -20,7 +20,7 @@ pub(crate) fn is_edit(words: &[&[u8]]) -> bool
     if is_idle(words) || words.len() < 2 {
         return false;
     }
-    words[1] == b"="
+    words[1] == b"=".as_slice()
 }
 
 // Whether a line of these words describes no part.

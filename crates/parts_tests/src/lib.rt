@@ -22,8 +22,17 @@ mod tests {
     #[test]
     fn parts_are_numbered_by_first_mention(rt: HostRuntime) -> Result<(), Fail> {
         let drawing = read(rt.alloc(), b"# parts\n\na b c\r\n\tb a a\nd  c c c c")?;
-        assert!(rt; drawing.names() == [b"a", b"b", b"c", b"d"]);
-        assert!(rt; drawing.slots() == [2, 3, 0, 0, 1, 1, 0, 0, 0, 0, 0, 0, 3, 3, 3, 3]);
+        assert!(rt;
+            drawing.names()
+                == [
+                    b"a".as_slice(),
+                    b"b".as_slice(),
+                    b"c".as_slice(),
+                    b"d".as_slice()
+                ]
+                .as_slice()
+        );
+        assert!(rt; drawing.slots() == [2, 3, 0, 0, 1, 1, 0, 0, 0, 0, 0, 0, 3, 3, 3, 3].as_slice());
         assert_eq!(rt; drawing.lines(), 3);
         assert_eq!(rt; drawing.references(), 8);
         Ok(())
@@ -136,7 +145,9 @@ mod tests {
         let heap = rt.alloc();
         let text = b"b.0 = a\na b\n# a.1 = a\na.3 =\nb\na.0\t=  b";
         assert_eq!(rt; read(heap, text)?.lines(), 2);
-        assert!(rt; edits(heap, text)?.as_slice() == [edit(4, 1), edit(3, 0), edit(0, 2)]);
+        assert!(rt;
+            edits(heap, text)?.as_slice() == [edit(4, 1), edit(3, 0), edit(0, 2)].as_slice()
+        );
         assert_eq!(rt; edits(heap, b"a b\n\nb a")?.len(), 0);
         Ok(())
     }
@@ -144,14 +155,14 @@ mod tests {
     #[test]
     fn a_slot_is_edited_as_often_as_the_text_says(rt: HostRuntime) -> Result<(), Fail> {
         let found = edits(rt.alloc(), b"a b\na.2 = b\na.2 =\na.2 = a")?;
-        assert!(rt; found.as_slice() == [edit(2, 2), edit(2, 0), edit(2, 1)]);
+        assert!(rt; found.as_slice() == [edit(2, 2), edit(2, 0), edit(2, 1)].as_slice());
         Ok(())
     }
 
     #[test]
     fn names_may_hold_dots(rt: HostRuntime) -> Result<(), Fail> {
         let found = edits(rt.alloc(), b"a.1 a\na.1.2 = a\na.1 = a.1")?;
-        assert!(rt; found.as_slice() == [edit(2, 2), edit(5, 1)]);
+        assert!(rt; found.as_slice() == [edit(2, 2), edit(5, 1)].as_slice());
         Ok(())
     }
 

@@ -13,7 +13,7 @@ use Rattle.queue.specs.declared.queue.Notes.{Notes}
 use Rattle.queue.specs.declared.queue.Queue.{Queue}
 use Rattle.std.proofs.lemmas.List.{get_or-set_same, length-append, length-set, reverse-append, set-get_or, set-set}
 use Rattle.std.proofs.lemmas.Bool.{cases_eq, cases_lt}
-use Rattle.std.specs.List.{AllByRecursion as All}
+use Rattle.std.specs.List.{AllByRecursion}
 
 -- a note done again after it was undone
 redo : (t : List ℕ) (s old new : ℕ) → slice_index t s ≡ new → slice_set (slice_set t s old) s new ≡ t
@@ -46,7 +46,7 @@ module _ {L : Type 0} {o : Ops L} (p : Lawful o) where
     pub shape : SameShape o l l'
 
   -- the ledger below follows the notes from the table under them to the queue's own
-  down : (notes : List Note) (l l' : L) (t under : List ℕ) → Passed o notes l l' → Undone notes t under → All (Fits (o.cells l)) notes → o.Agrees l under → Down l l' t
+  down : (notes : List Note) (l l' : L) (t under : List ℕ) → Passed o notes l l' → Undone notes t under → AllByRecursion (Fits (o.cells l)) notes → o.Agrees l under → Down l l' t
   down [] l l' t under same undone fits ag =
       record { agrees = subst (λ (k : L). o.Agrees k t) (sym same) (subst (o.Agrees l) undone ag); shape = no_change same }
   down (n ∷ older) l l' t under passed undone fits ag =
@@ -64,7 +64,7 @@ module _ {L : Type 0} {o : Ops L} (p : Lawful o) where
       }
 
   -- the same, where the notes empty slots: a chain of its own
-  down_emptied : (notes : List Note) (l l' : L) (t under : List ℕ) → Passed o notes l l' → Undone notes t under → All (Fits (o.cells l)) notes → All (λ n. n.new ≡ 0) notes → o.Agrees l under → Emptied o under l t l'
+  down_emptied : (notes : List Note) (l l' : L) (t under : List ℕ) → Passed o notes l l' → Undone notes t under → AllByRecursion (Fits (o.cells l)) notes → AllByRecursion (λ n. n.new ≡ 0) notes → o.Agrees l under → Emptied o under l t l'
   down_emptied [] l l' t under same undone fits zeros ag =
       subst (λ (k : L). Emptied o under l t k) (sym same) (subst (λ (u : List ℕ). Emptied o under l u l) undone none)
   down_emptied (n ∷ older) l l' t under passed undone fits zeros ag =
@@ -83,9 +83,9 @@ module _ {L : Type 0} {o : Ops L} (p : Lawful o) where
   notes q = reverse (waiting_notes q.inner)
 
   abbrev AllZero : List Note → Type 0
-  AllZero = All (λ n. n.new ≡ 0)
+  AllZero = AllByRecursion (λ n. n.new ≡ 0)
 
-  table_of : (ns : List Note) (n : ℕ) (t under : List ℕ) → Undone ns t under → All (Fits n) ns → Table n under → Table n t
+  table_of : (ns : List Note) (n : ℕ) (t under : List ℕ) → Undone ns t under → AllByRecursion (Fits n) ns → Table n under → Table n t
   table_of [] n t under undone fits table = subst (Table n) undone table
   table_of (m ∷ older) n t under undone fits table =
       subst (Table n) (redo t m.slot m.old m.new undone.0)
@@ -114,7 +114,7 @@ module _ {L : Type 0} {o : Ops L} (p : Lawful o) where
       let no_notes : [] ≡ notes q = sym (none_held q.inner (omega arith)) in
       record {
         few = omega arith;
-        ranges = subst (All (λ n. InRange o q.below n.slot n.old n.new)) no_notes tt;
+        ranges = subst (AllByRecursion (λ n. InRange o q.below n.slot n.old n.new)) no_notes tt;
         under = t;
         undone = subst (λ (ns : List Note). Undone ns t t) no_notes refl;
         agrees = ag;
@@ -138,8 +138,8 @@ module _ {L : Type 0} {o : Ops L} (p : Lawful o) where
     joined room = record {
       few = did.few range;
       ranges =
-          subst (All (λ n. InRange o q'.below n.slot n.old n.new)) (sym (joined_list room))
-          (subst (λ (k : L). All (λ n. InRange o k n.slot n.old n.new) (note_of s old new ∷ notes q)) (sym (did.joins range room).0) (range, ag.ranges));
+          subst (AllByRecursion (λ n. InRange o q'.below n.slot n.old n.new)) (sym (joined_list room))
+          (subst (λ (k : L). AllByRecursion (λ n. InRange o k n.slot n.old n.new) (note_of s old new ∷ notes q)) (sym (did.joins range room).0) (range, ag.ranges));
       under = ag.under;
       undone =
           subst (λ (ns : List Note). Undone ns (slice_set t s new) ag.under) (sym (joined_list room))
@@ -156,7 +156,7 @@ module _ {L : Type 0} {o : Ops L} (p : Lawful o) where
         let cells = (full_down full).shape.cells in
         record {
           few = did.few range;
-          ranges = subst (All (λ n. InRange o q'.below n.slot n.old n.new)) list ((omega (arith, cells, range.0), omega (arith, cells, range.1), omega (arith, cells, range.2)), tt);
+          ranges = subst (AllByRecursion (λ n. InRange o q'.below n.slot n.old n.new)) list ((omega (arith, cells, range.0), omega (arith, cells, range.1), omega (arith, cells, range.2)), tt);
           under = t;
           undone = subst (λ (ns : List Note). Undone ns (slice_set t s new) t) list (written, sym (redo t s new old was));
           agrees = (full_down full).agrees;

@@ -4,7 +4,7 @@ use Rattle.ledgers.specs.Meaning.{Ops, InRange}
 use Rattle.queue.specs.declared.queue.Note.{Note}
 use Rattle.queue.specs.declared.queue.Notes.{Notes}
 use Rattle.queue.specs.declared.queue.Queue.{Queue}
-use Rattle.std.specs.List.{AllByRecursion as All}
+use Rattle.std.specs.List.{AllByRecursion}
 
 -- How many notes wait.
 abbrev pub held : Notes → ℕ
@@ -35,7 +35,7 @@ module _ {L : Type 0} (o : Ops L) where
   -- A queue agrees with a table if undoing its notes, newest first and each from its new content, gives one with which the ledger below agrees.
   pub record QueueAgrees (q : Queue L) (t : List ℕ) : Type 0 where
     pub few : q.inner.len ≤ 64
-    pub ranges : All (λ n. InRange o q.below n.slot n.old n.new) (reverse (waiting_notes q.inner))
+    pub ranges : AllByRecursion (λ n. InRange o q.below n.slot n.old n.new) (reverse (waiting_notes q.inner))
     pub under : List ℕ
     pub undone : Undone (reverse (waiting_notes q.inner)) t under
     pub agrees : o.Agrees q.below under
@@ -52,7 +52,7 @@ module _ {L : Type 0} (o : Ops L) where
     pub joins : InRange o q.below s old new → held q.inner < 64 → (q'.below ≡ q.below) × (waiting_notes q'.inner ≡ waiting_notes q.inner ++ note_of s old new ∷ [])
     pub starts : InRange o q.below s old new → held q.inner ≡ 64 → Passed (reverse (waiting_notes q.inner)) q.below q'.below × (waiting_notes q'.inner ≡ note_of s old new ∷ [])
 
-  -- All notes go down in order; then the ledger below is settled.
+  -- AllByRecursion notes go down in order; then the ledger below is settled.
   pub record QueueSettles (q q' : Queue L) : Type 0 where
     pub between : L
     pub passed : Passed (reverse (waiting_notes q.inner)) q.below between

@@ -6,7 +6,7 @@ use Rattle.parts.specs.declared.edits.Edit.{Edit}
 use Rattle.replay.specs.declared.replay.ReplayError.{ReplayError}
 use Rattle.replay.specs.declared.replay.ReplayError.TheVariants.{TooManyCells, OutOfRange, Memory}
 use Rattle.replay.specs.declared.replay.Replayed.{Replayed}
-use Rattle.std.specs.List.{ContainsAt as Has, AllByRecursion as All}
+use Rattle.std.specs.List.{ContainsAt as Has, AllByRecursion}
 
 abbrev pub no_edit : Edit
 no_edit = record { slot = 0; content = 0 }
@@ -18,7 +18,7 @@ edited t (e ∷ es) = edited (slice_set t e.slot e.content) es
 
 -- The slots are a table, and each edit is in its range.
 abbrev pub Proper : List ℕ → List Edit → Type 0
-Proper slots edits = (n : ℕ) × Table n slots × All (λ e. (e.slot < length slots) × (e.content ≤ n)) edits
+Proper slots edits = (n : ℕ) × Table n slots × AllByRecursion (λ e. (e.slot < length slots) × (e.content ≤ n)) edits
 
 -- A content that is no cell of n.
 abbrev pub BadContent : ℕ → List ℕ → Type 0

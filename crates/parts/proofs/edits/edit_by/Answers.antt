@@ -16,8 +16,8 @@ first words d some = get_or-map (λ w. w.now) words 0 d [] some
 few : (words : List (Bor (List ℕ))) → length words ≤ 3 → length (bytes words) ≤ 3
 few words h = rw length-map h
 
-pub returns-then-words-gt-MOST-WORDS : goal.returns-then-words-gt-MOST-WORDS
-returns-then-words-gt-MOST-WORDS c = too_long (known c.args.drawing.now) (bytes c.args.words.now) (rw length-map c.if-words-gt-MOST-WORDS.true)
+pub returns-then-words-gt-MOST_WORDS : goal.returns-then-words-gt-MOST_WORDS
+returns-then-words-gt-MOST_WORDS c = too_long (known c.args.drawing.now) (bytes c.args.words.now) (rw length-map c.if-words-gt-MOST_WORDS.true)
 
 pub returns-in_default : goal.returns-in_default
 returns-in_default c =
@@ -30,23 +30,23 @@ returns-in_default-find c =
     let names = known c.args.drawing.now in
     let at = c.in-Some.ensures in
     let word = first words _ c.requires in
-    no_owner names (bytes words) (few words c.if-words-gt-MOST-WORDS.false) (ap is_slot word ∙ at.0)
+    no_owner names (bytes words) (few words c.if-words-gt-MOST_WORDS.false) (ap is_slot word ∙ at.0)
     (λ h. c.in_default-find.ensures (subst (Has names) (ap owner word ∙ sym at.1) h))
 
-pub returns-in_default-new-content : goal.returns-in_default-new-content
-returns-in_default-new-content c =
+pub returns-in_default-new_content : goal.returns-in_default-new_content
+returns-in_default-new_content c =
     let words = c.args.words.now in
-    let none = c.in_default-new-content.ensures in
-    no_other (known c.args.drawing.now) (bytes words) (few words c.if-words-gt-MOST-WORDS.false) (ap is_slot (first words _ c.requires) ∙ c.in-Some.ensures.0)
+    let none = c.in_default-new_content.ensures in
+    no_other (known c.args.drawing.now) (bytes words) (few words c.if-words-gt-MOST_WORDS.false) (ap is_slot (first words _ c.requires) ∙ c.in-Some.ensures.0)
     (rw length-map none.0) none.1
 
-pub overflow-mul-slot : goal.overflow-mul-slot
-overflow-mul-slot c =
+pub overflow_mul-slot : goal.overflow_mul-slot
+overflow_mul-slot c =
     let drawing = c.args.drawing.now in
     omega (arith, c.in-Some-find.ensures.0, c.in-Some-find.ensures.1, parts drawing, drawing.few)
 
-pub overflow-add-slot : goal.overflow-add-slot
-overflow-add-slot c =
+pub overflow_add-slot : goal.overflow_add-slot
+overflow_add-slot c =
     let drawing = c.args.drawing.now in
     omega (arith, c.in-Some-find.ensures.0, c.in-Some-find.ensures.1, parts drawing, drawing.few, c.from.ensures, c.in-Some.ensures.2.small)
 
@@ -57,9 +57,9 @@ returns c =
     let at = c.in-Some.ensures in
     let word = first words _ c.requires in
     let part = c.in-Some-find.ensures in
-    let put = c.in-Some-new-content.ensures in
+    let put = c.in-Some-new_content.ensures in
     let long = length-map words (λ w. w.now) in (
-      no_fault names (bytes words) (few words c.if-words-gt-MOST-WORDS.false) (ap is_slot word ∙ at.0)
+      no_fault names (bytes words) (few words c.if-words-gt-MOST_WORDS.false) (ap is_slot word ∙ at.0)
           (subst (Has names) (at.1 ∙ ap owner (sym word)) (has_called names _ _ part))
           (λ l. has_called names _ _ (put.0 (omega (arith, l, long)))),
       record {

@@ -8,4 +8,4 @@ pub returns-in-empty : goal.returns-in-empty
 returns-in-empty c = idle_empty (λ w. w.now) c.args.words.now (search rules)
 
 pub returns-in-len1-up : goal.returns-in-len1-up
-returns-in-len1-up c = idle_marked (λ w. w.now) c.args.words.now _ _ (search rules) (slice_eq-Decides Decides-eqb _ _ _ c.starts-with.ensures.value)
+returns-in-len1-up c = idle_marked (λ w. w.now) c.args.words.now _ _ (search rules) (slice_eq-Decides Decides-eqb _ _ _ c.starts_with.ensures.value)

@@ -7,11 +7,11 @@ use Rattle.parts.proofs.names.any_unprintable.Goals as goal
 pub loop-name-init : goal.loop-name-init
 loop-name-init c = sym (any_map (λ w. w.now) unprintable c.args.names.now)
 
-pub returns-then-not-is-printable : goal.returns-then-not-is-printable
-returns-then-not-is-printable c = hit _ _ _ _ c.loop-name.invariant _ c.loop-name-test.true (not-false _ (sym c.if-not-is-printable.ensures))
+pub returns-then-not-is_printable : goal.returns-then-not-is_printable
+returns-then-not-is_printable c = hit _ _ _ _ c.loop-name.invariant _ c.loop-name-test.true (not-false _ (sym c.if-not-is_printable.ensures))
 
 pub loop-name-preserved : goal.loop-name-preserved
-loop-name-preserved c = miss _ _ _ _ c.loop-name.invariant _ c.loop-name-test.true (not-true _ (sym c.if-not-is-printable.ensures))
+loop-name-preserved c = miss _ _ _ _ c.loop-name.invariant _ c.loop-name-test.true (not-true _ (sym c.if-not-is_printable.ensures))
 
 pub returns : goal.returns
 returns c = over _ _ _ _ c.loop-name.invariant c.loop-name-test.false

@@ -8,12 +8,12 @@ use Rattle.parts.proofs.names.is_printable.Goals as goal
 graphic : (b : ℕ) → printable b ≡ is_ascii_graphic b
 graphic b = grind (arith, nat_tests)
 
-pub returns-then-not-is-ascii-graphic : goal.returns-then-not-is-ascii-graphic
-returns-then-not-is-ascii-graphic c =
-    ap not (hit _ _ _ _ c.loop-byte.invariant 0 c.loop-byte-test.true (ap not (graphic (get_or c.args.name.now c.loop-byte.byte-index 0) ∙ sym c.if-not-is-ascii-graphic.ensures.value)))
+pub returns-then-not-is_ascii_graphic : goal.returns-then-not-is_ascii_graphic
+returns-then-not-is_ascii_graphic c =
+    ap not (hit _ _ _ _ c.loop-byte.invariant 0 c.loop-byte-test.true (ap not (graphic (get_or c.args.name.now c.loop-byte.byte-index 0) ∙ sym c.if-not-is_ascii_graphic.ensures.value)))
 
 pub loop-byte-preserved : goal.loop-byte-preserved
-loop-byte-preserved c = miss _ _ _ _ c.loop-byte.invariant 0 c.loop-byte-test.true (ap not (graphic (get_or c.args.name.now c.loop-byte.byte-index 0) ∙ sym c.if-not-is-ascii-graphic.ensures.value))
+loop-byte-preserved c = miss _ _ _ _ c.loop-byte.invariant 0 c.loop-byte-test.true (ap not (graphic (get_or c.args.name.now c.loop-byte.byte-index 0) ∙ sym c.if-not-is_ascii_graphic.ensures.value))
 
 pub returns : goal.returns
 returns c = ap not (over _ _ _ _ c.loop-byte.invariant c.loop-byte-test.false)

@@ -12,7 +12,7 @@ loop-error-init c = none_done c.args.text.now c.new-drawing.result c.new-drawing
 pub returns-in-Err : goal.returns-in-Err
 returns-in-Err c =
     subst (λ e. Reads c.args.text.now (Err e)) (sym c.at_line.ensures)
-    (stopped c.args.text.now _ _ _ c.loop-error.drawing c.loop-error.invariant _ c.cut.ensures c.read-line.new.drawing _ (c.in-Err.ensures (descriptions (take c.loop-error.above (lines c.args.text.now))) c.loop-error.invariant.built))
+    (stopped c.args.text.now _ _ _ c.loop-error.drawing c.loop-error.invariant _ c.cut.ensures c.read_line.new.drawing _ (c.in-Err.ensures (descriptions (take c.loop-error.above (lines c.args.text.now))) c.loop-error.invariant.built))
 
 pub returns-in_default-more : goal.returns-in_default-more
 returns-in_default-more c =

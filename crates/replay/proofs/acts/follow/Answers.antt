@@ -18,5 +18,5 @@ returns g c =
     let long : length slots ≡ 4 * n = omega arith in
     let did = c.in-Ok.ensures in
     let cleared = g.L.Ledger.laws.clears _ _ _ did.0 did.1 in
-    let zeros = c.in_ok-table.ensures.items-if-clones-equal (λ y is. is) in
+    let zeros = c.in_ok-table.ensures.items_if_clones_equal (λ y is. is) in
     (long, c.in_ok-draw.ensures (record { cells = cleared.cells; agrees = subst (g.L.Ledger.ops.Agrees _) (sym (c.deref_mut.ensures.value ∙ zeros ∙ ap (λ (k : ℕ). replicate k 0) long)) cleared.agrees }))

@@ -1,4 +1,4 @@
-use Rattle.std.proofs.Common.{◌≡◌, ℕ, ◌+◌, ◌<◌, List, length, get_or, is_ok, None, vec_items, Option, sym, ap, ◌∙◌, subst, arith}
+use Rattle.std.proofs.Common.{ℕ, ◌+◌, ◌<◌, List, length, get_or, is_ok, None, vec_items, Option, sym, ap, ◌∙◌, subst, arith}
 use Rattle.ledgers.specs.Answers.{Numbered}
 use Rattle.replay.proofs.Following.{numbered_more, told_numbers}
 use Rattle.std.proofs.ResultArms.{chosen}

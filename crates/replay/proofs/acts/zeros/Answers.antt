@@ -1,10 +1,10 @@
-use Rattle.std.proofs.Common.{◌≡◌, ℕ, ◌+◌, ◌≤◌, List, is_ok, vec_items, sym, ap, ◌∙◌, subst, arith, rules}
+use Rattle.std.proofs.Common.{◌+◌, is_ok, vec_items, sym, ap, subst, arith, rules}
 use Rattle.replay.proofs.Following.{ListedBelow, listed_more, listed_all}
 use Rattle.std.proofs.ResultArms.{chosen}
 use Rattle.replay.proofs.acts.zeros.Goals as goal
 
-pub overflow-add-from : goal.overflow-add-from
-overflow-add-from g c =
+pub overflow_add-from : goal.overflow_add-from
+overflow_add-from g c =
     let f = c.requires.follows.1 in
     let p = g.L.Ledger.laws in
     let next = c.in-Some.ensures c.requires.follows.0 f.agrees in

@@ -5,36 +5,34 @@ use Rattle.parts.proofs.Firsts.{added_new}
 use Rattle.parts.proofs.Growing.{parts, count_unmarked, numbered_new}
 use Rattle.parts.proofs.drawing.Drawing.add.Goals as goal
 
-pub returns-then-len-eq-MOST-PARTS : goal.returns-then-len-eq-MOST-PARTS
-returns-then-len-eq-MOST-PARTS c =
+pub returns-then-len-eq-MOST_PARTS : goal.returns-then-len-eq-MOST_PARTS
+returns-then-len-eq-MOST_PARTS c =
     let names = known c.args.self.now in
     let long = ap length (added_new names c.args.name.now c.requires) ∙ length_push names c.args.name.now in
-    (refl, omega (arith, long, parts c.args.self.now, c.len.ensures, c.if-len-eq-MOST-PARTS.true))
+    (refl, omega (arith, long, parts c.args.self.now, c.len.ensures, c.if-len-eq-MOST_PARTS.true))
 
 pub invariant_of-self-2 : goal.invariant_of-self-2
 invariant_of-self-2 c =
     let old = c.args.self.now in
-    let names = c.push-reserved.ensures.len ∙ ap (λ n. n + 1) c.reserve.ensures.len in
-    let described = c.push-reserved-2.ensures.len ∙ ap (λ n. n + 1) c.reserve-2.ensures.len in
-    let slots = c.in-ok-extend-from-slice.ensures.len in
-    let marks = c.push-reserved-2.ensures.items ∙ ap (λ l. l ++ false ∷ []) c.reserve-2.ensures.items in (
-      omega (arith, names, slots, old.slotted),
-      (
-        omega (arith, names, described, old.marked),
-        (
-          omega (arith, names, old.few, c.len.ensures, c.if-len-eq-MOST-PARTS.false),
-          (old.counted ∙ sym (ap (count_by (λ b. b)) marks ∙ count_unmarked (vec_items old.described)), (old.bounded, tt)),
-        ),
-      ),
-    )
+    let names = c.push_reserved.ensures.len ∙ ap (λ n. n + 1) c.reserve.ensures.len in
+    let described = c.push_reserved-2.ensures.len ∙ ap (λ n. n + 1) c.reserve-2.ensures.len in
+    let slots = c.in_ok-extend_from_slice.ensures.len in
+    let marks = c.push_reserved-2.ensures.items ∙ ap (λ l. l ++ false ∷ []) c.reserve-2.ensures.items in
+    record {
+      slotted = omega (arith, names, slots, old.slotted);
+      marked = omega (arith, names, described, old.marked);
+      few = omega (arith, names, old.few, c.len.ensures, c.if-len-eq-MOST_PARTS.false);
+      counted = old.counted ∙ sym (ap (count_by (λ b. b)) marks ∙ count_unmarked (vec_items old.described));
+      bounded = old.bounded;
+    }
 
 pub returns : goal.returns
 returns c =
     numbered_new {w = c.args.name} {before = c.args.self.now}
     (record {
-      names = c.push-reserved.ensures.items ∙ ap (λ l. l ++ c.args.name ∷ []) c.reserve.ensures.items;
-      slots = c.in-ok-extend-from-slice.ensures.items;
-      described = c.push-reserved-2.ensures.items ∙ ap (λ l. l ++ false ∷ []) c.reserve-2.ensures.items;
+      names = c.push_reserved.ensures.items ∙ ap (λ l. l ++ c.args.name ∷ []) c.reserve.ensures.items;
+      slots = c.in_ok-extend_from_slice.ensures.items;
+      described = c.push_reserved-2.ensures.items ∙ ap (λ l. l ++ false ∷ []) c.reserve-2.ensures.items;
       lined = refl;
       referred = refl;
     })

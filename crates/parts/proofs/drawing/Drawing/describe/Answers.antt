@@ -27,74 +27,69 @@ long words = length-map (take (length words - 1) (drop 1 words)) (λ w. w.now) �
 fine : (words : List (Bor (List ℕ))) (d : Bor (List ℕ)) → 0 < length words → None ≡ fault_in (bytes words) → fault_in ((get_or words 0 d).now ∷ rest words) ≡ None
 fine words d h e = subst (λ l. fault_in l ≡ None) (split words d h) (sym e)
 
-pub returns-in-err-part : goal.returns-in-err-part
-returns-in-err-part c ds b =
+pub returns-in_err-part : goal.returns-in_err-part
+returns-in_err-part c ds b =
     let p = err_from_is_err_and c.from_residual.result c.from_residual.ensures.1 in
     let words = c.args.words.now in
-    let e = c.in-err-part.field-0.0 in
+    let e = c.in_err-part.field-0.0 in
     rw (p.1, p.2)
     (described_as ds _ _ c.subject.new.self (Err e) (split words _ c.requires.some)
-    (described_unfit b _ (rest words) (fine words _ c.requires.some c.in_default.ensures) c.subject.new.self e c.in-err-part.ensures))
+    (described_unfit b _ (rest words) (fine words _ c.requires.some c.in_default.ensures) c.subject.new.self e c.in_err-part.ensures))
 
 pub place-requires : goal.place-requires
 place-requires c =
     let words = c.args.words.now in
-    let is = c.in-ok-part.ensures.0.called in
+    let is = c.in_ok-part.ensures.0.called in
     record {
       is_part = (is.0, is.1);
       fits = omega (arith, few words c.in_default.ensures, ap length (take_rest words 1), length-drop 1 words);
     }
 
-pub returns-in-err-place : goal.returns-in-err-place
-returns-in-err-place c ds b =
-    let p = err_from_is_err_and c.from_residual-in-err-place.result c.from_residual-in-err-place.ensures.1 in
+pub returns-in_err-place : goal.returns-in_err-place
+returns-in_err-place c ds b =
+    let p = err_from_is_err_and c.from_residual-in_err-place.result c.from_residual-in_err-place.ensures.1 in
     let words = c.args.words.now in
-    let e = c.in-err-place.field-0.0 in
-    let num = c.in-ok-part.ensures in
+    let e = c.in_err-place.field-0.0 in
+    let num = c.in_ok-part.ensures in
     rw (p.1, p.2)
     (described_as ds _ _ c.place.new.self (Err e) (split words _ c.requires.some)
-    (described_crowded b num.0 num.1 (rest words) (fine words _ c.requires.some c.in_default.ensures) c.place.new.self e c.in-err-place.ensures))
+    (described_crowded b num.0 num.1 (rest words) (fine words _ c.requires.some c.in_default.ensures) c.place.new.self e c.in_err-place.ensures))
 
 pub index_mut-requires : goal.index_mut-requires
 index_mut-requires c =
     let full = c.place.new.self in
-    let is = c.in-ok-part.ensures.0.called in
-    omega (arith, c.from.ensures, is.0, is.1, grown_long {after = full} c.in-ok-place.ensures.grown, parts full, full.marked)
+    let is = c.in_ok-part.ensures.0.called in
+    omega (arith, c.from.ensures, is.0, is.1, grown_long {after = full} c.in_ok-place.ensures.grown, parts full, full.marked)
 
-pub overflow-add-self : goal.overflow-add-self
-overflow-add-self c = omega (arith, few_lines c.place.new.self)
+pub overflow_add-self : goal.overflow_add-self
+overflow_add-self c = omega (arith, few_lines c.place.new.self)
 
-pub overflow-add-self-2 : goal.overflow-add-self-2
-overflow-add-self-2 c = omega (arith, few_lines c.place.new.self, c.place.new.self.bounded, few c.args.words.now c.in_default.ensures)
+pub overflow_add-self-2 : goal.overflow_add-self-2
+overflow_add-self-2 c = omega (arith, few_lines c.place.new.self, c.place.new.self.bounded, few c.args.words.now c.in_default.ensures)
 
 pub invariant_of-self : goal.invariant_of-self
 invariant_of-self c =
     let full = c.place.new.self in
-    let num = c.in-ok-part.ensures in
-    let fill = c.in-ok-place.ensures in
-    let part = c.in-ok-part.part in
+    let num = c.in_ok-part.ensures in
+    let fill = c.in_ok-place.ensures in
+    let part = c.in_ok-part.part in
     let is = called_grown {after = full} fill.grown part _ num.0.called in
-    let unmarked : mark full part ≡ false = fill.grown.told (part - 1) ∙ num.1 in (
-      full.slotted,
-      (
-        full.marked,
-        (
-          full.few,
-          (
-            count_marked full part c.from.result c.from.ensures is.0 is.1 unmarked,
-            (omega (arith, full.bounded, few c.args.words.now c.in_default.ensures), tt),
-          ),
-        ),
-      ),
-    )
+    let unmarked : mark full part ≡ false = fill.grown.told (part - 1) ∙ num.1 in
+    record {
+      slotted = full.slotted;
+      marked = full.marked;
+      few = full.few;
+      counted = count_marked full part c.from.result c.from.ensures is.0 is.1 unmarked;
+      bounded = omega (arith, full.bounded, few c.args.words.now c.in_default.ensures);
+    }
 
 pub returns : goal.returns
 returns c ds b =
     let words = c.args.words.now in
     let full = c.place.new.self in
-    let num = c.in-ok-part.ensures in
+    let num = c.in_ok-part.ensures in
     described_as ds _ _ _ (Ok tt) (split words _ c.requires.some)
-    (described_done b num.0 num.1 (rest words) (fine words _ c.requires.some c.in_default.ensures) c.in-ok-place.ensures
+    (described_done b num.0 num.1 (rest words) (fine words _ c.requires.some c.in_default.ensures) c.in_ok-place.ensures
     (record {
       names = refl;
       slots = refl;

@@ -1,4 +1,4 @@
-use Rattle.std.proofs.Common.{◌≡◌, ℕ, ◌<◌, Bool, true, false, not, ◌&&◌, List, [], length, get_or, Decides, sym, ap, ◌∙◌, arith, Bor}
+use Rattle.std.proofs.Common.{◌≡◌, ℕ, ◌<◌, Bool, false, not, ◌&&◌, List, [], length, get_or, Decides, sym, ap, ◌∙◌, arith, Bor}
 use Rattle.std.proofs.lemmas.Slice.Eq.{slice_eq-Decides, bytes_eq-Decides}
 use Rattle.std.proofs.lemmas.List.{get_or-map}
 use Rattle.std.proofs.lemmas.Bool.Decides.{same_from_decides, Decides-eqb}
@@ -19,9 +19,9 @@ by_first kind name words d r is told some same =
     ∙ ap (λ (b : Bool). not b && bytes_eq (subject (bytes words)) (name)) (sym told) ∙ ap (λ (k : LineKind). is_sought k name (bytes words)) (sym is)
 
 pub bounds-words-0 : goal.bounds-words-0
-bounds-words-0 c = let some = some_word (λ w. w.now) c.args.words.now (sym c.if-not-is-passed-2.ensures) in omega arith
+bounds-words-0 c = let some = some_word (λ w. w.now) c.args.words.now (sym c.if-not-is_passed-2.ensures) in omega arith
 
-pub returns-then-not-is-passed-2 : goal.returns-then-not-is-passed-2
-returns-then-not-is-passed-2 c =
-    by_first c.args.self c.args.name.now c.args.words.now _ _ c.in-Description.is (sym c.if-not-is-passed-2.ensures)
-    (some_word (λ w. w.now) c.args.words.now (sym c.if-not-is-passed-2.ensures)) (slice_eq-Decides Decides-eqb _ _ _ c.eq.ensures)
+pub returns-then-not-is_passed-2 : goal.returns-then-not-is_passed-2
+returns-then-not-is_passed-2 c =
+    by_first c.args.self c.args.name.now c.args.words.now _ _ c.in-Description.is (sym c.if-not-is_passed-2.ensures)
+    (some_word (λ w. w.now) c.args.words.now (sym c.if-not-is_passed-2.ensures)) (slice_eq-Decides Decides-eqb _ _ _ c.eq.ensures)
