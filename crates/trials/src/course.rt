@@ -1,4 +1,6 @@
 //! Where the trials are, and what they came to so far.
+ghost use Rattle.std.specs.Prelude.{◌≡◌};
+
 use super::model::Answer;
 use heap::Token;
 use std::alloc::Global;
@@ -53,7 +55,9 @@ pub struct Course {
 }
 
 impl Course {
-    pub fn new(memory: Global, tokens: Vec<Kept>) -> Course {
+    pub fn new(memory: Global, tokens: Vec<Kept>) -> Course
+        ensures { result.tokens ≡ tokens }
+    {
         Course {
             memory,
             tokens,
@@ -68,7 +72,9 @@ impl Course {
         }
     }
 
-    pub fn into_tokens(self) -> Vec<Kept> {
+    pub fn into_tokens(self) -> Vec<Kept>
+        ensures { result ≡ self.tokens }
+    {
         let Course {
             memory: _,
             tokens,
@@ -85,13 +91,17 @@ impl Course {
     }
 
     /// Sees that as many answers are right.
-    pub fn expect(&mut self, what: Fault, answers: u32, is_right: bool) -> Result<(), Fault> {
+    pub fn expect(&mut self, what: Fault, answers: u32, is_right: bool) -> Result<(), Fault>
+        ensures { self.new.tokens ≡ self.old.tokens }
+    {
         self.compared = self.compared.saturating_add(u64::from(answers));
         if is_right { Ok(()) } else { Err(what) }
     }
 
     // Counts a refusal by its number.
-    fn count(&mut self, heard: Answer) {
+    fn count(&mut self, heard: Answer)
+        ensures { self.new.tokens ≡ self.old.tokens }
+    {
         if let Answer::Refused(number) = heard {
             if let Some(times) = self.refused.get_mut(usize::from(number)) {
                 *times = times.saturating_add(1);
@@ -100,7 +110,9 @@ impl Course {
     }
 
     /// Sees that the heap answers a call as the model does.
-    pub fn expect_answer(&mut self, heard: Answer, expected: Answer) -> Result<(), Fault> {
+    pub fn expect_answer(&mut self, heard: Answer, expected: Answer) -> Result<(), Fault>
+        ensures { self.new.tokens ≡ self.old.tokens }
+    {
         self.count(heard);
         self.step = self.step.saturating_add(1);
         self.calls = self.calls.saturating_add(1);

@@ -12,7 +12,6 @@ use anyhow::anyhow;
 use course::{Course, Fault};
 use heap::Refusal;
 use stacks::every_stack;
-use std::mem::ManuallyDrop;
 
 // The causes of the calls that are played: no work memory is lent to them.
 const CAUSES: [Refusal; 10] = [
@@ -61,12 +60,6 @@ fn main(rt: HostRuntime) -> anyhow::Result<()> {
     let mut course = Course::new(rt.alloc(), tokens);
     let outcome = every_stack(&mut course);
     let reported = report(&rt, &course, outcome);
-    let tokens = course.into_tokens();
-    if tokens.is_empty() {
-        tokens.destroy_empty();
-        return reported;
-    }
-    // As no token may be let go, the program ends with those that no heap took back.
-    let _left = unsafe { ManuallyDrop::new_unchecked(tokens) };
-    Err(anyhow!("no heap took back every token"))
+    course.into_tokens().destroy_empty();
+    reported
 }

@@ -1,4 +1,6 @@
 //! Twelve stacks of layers over the three kinds of count.
+ghost use Rattle.std.specs.Prelude.{◌≡◌, []};
+
 use super::course::{Course, Fault};
 use super::trial::play;
 use coalescing::Log;
@@ -17,7 +19,9 @@ const ROWS: usize = MANY + FEW;
 
 /// The layers to put on two ledgers, the lowest first, before they are played.
 trait Layers {
-    fn play<L: Ledger + Drop>(left: L, right: L, course: &mut Course) -> Result<(), Fault>;
+    fn play<L: Ledger + Drop>(left: L, right: L, course: &mut Course) -> Result<(), Fault>
+        requires { course.old.tokens.items ≡ [] }
+        ensures { course.new.tokens.items ≡ [] };
 }
 
 struct NoMore;
@@ -60,7 +64,10 @@ fn scramble<K: Kind>(rows: &mut [K::Row], random: &mut Random) {
 }
 
 // Goes on to the next stack, with random numbers of its own.
-fn over<K: Kind, T: Layers>(rows: &mut [K::Row], course: &mut Course) -> Result<(), Fault> {
+fn over<K: Kind, T: Layers>(rows: &mut [K::Row], course: &mut Course) -> Result<(), Fault>
+    requires { course.old.tokens.items ≡ [] }
+    ensures { course.new.tokens.items ≡ [] }
+{
     course.stacks = course.stacks.saturating_add(1);
     course.random = Random::new(u64::from(course.stacks));
     scramble::<K>(rows, &mut course.random);
@@ -69,13 +76,19 @@ fn over<K: Kind, T: Layers>(rows: &mut [K::Row], course: &mut Course) -> Result<
     T::play(Bottom::<K>::new(left), Bottom::<K>::new(right), course)
 }
 
-pub fn every_stack(course: &mut Course) -> Result<(), Fault> {
+pub fn every_stack(course: &mut Course) -> Result<(), Fault>
+    requires { course.old.tokens.items ≡ [] }
+    ensures { course.new.tokens.items ≡ [] }
+{
     over_exact(course)?;
     over_sticky(course)?;
     over_tally(course)
 }
 
-fn over_exact(course: &mut Course) -> Result<(), Fault> {
+fn over_exact(course: &mut Course) -> Result<(), Fault>
+    requires { course.old.tokens.items ≡ [] }
+    ensures { course.new.tokens.items ≡ [] }
+{
     let rows = &mut [ExactRow { value: 0 }; ROWS];
     over::<Exact, NoMore>(rows, course)?;
     over::<Exact, AddQueue<NoMore>>(rows, course)?;
@@ -83,7 +96,10 @@ fn over_exact(course: &mut Course) -> Result<(), Fault> {
     over::<Exact, AddQueue<AddLog<AddZeros<NoMore>>>>(rows, course)
 }
 
-fn over_sticky(course: &mut Course) -> Result<(), Fault> {
+fn over_sticky(course: &mut Course) -> Result<(), Fault>
+    requires { course.old.tokens.items ≡ [] }
+    ensures { course.new.tokens.items ≡ [] }
+{
     let rows = &mut [StickyRow { value: 0 }; ROWS];
     over::<Sticky, AddLog<NoMore>>(rows, course)?;
     over::<Sticky, AddZeros<NoMore>>(rows, course)?;
@@ -91,7 +107,10 @@ fn over_sticky(course: &mut Course) -> Result<(), Fault> {
     over::<Sticky, AddZeros<AddQueue<AddLog<NoMore>>>>(rows, course)
 }
 
-fn over_tally(course: &mut Course) -> Result<(), Fault> {
+fn over_tally(course: &mut Course) -> Result<(), Fault>
+    requires { course.old.tokens.items ≡ [] }
+    ensures { course.new.tokens.items ≡ [] }
+{
     let rows = &mut [TallyRow { ones: 0 }; ROWS];
     over::<Tally, NoMore>(rows, course)?;
     over::<Tally, AddQueue<AddLog<NoMore>>>(rows, course)?;

@@ -1,9 +1,16 @@
 //! Random calls on two heaps side by side, each with a ledger of its own. Either may be brought the tokens of both.
+ghost use Rattle.std.specs.Prelude.{◌≡◌, [], None, IfOk};
+ghost use Rattle.heap.specs.Calls.{open_token, release_checks, with_hold};
+ghost use Rattle.heap.specs.Refusals.{cause_of};
+ghost use Rattle.heap.specs.States.{state};
+ghost use Rattle.trials.specs.Tokens.{Balanced, Moves, NoneOpen, times_open};
+ghost use Rattle.heap.specs.declared.token.Token.{Token};
+
 use super::calls::{Call, Mix, Name};
 use super::compare::{heap_agrees, heap_answers, ledger_agrees, ledger_answers};
 use super::course::{Course, Fault, Kept};
 use super::model::{Answer, Model};
-use heap::{Heap, Refusal, Unreleased};
+use heap::{Heap, Refusal, Token, Unreleased};
 use ledgers::Ledger;
 
 const ROUNDS: u32 = 256;
@@ -27,8 +34,45 @@ fn new_model(course: &Course) -> Result<Model, Fault> {
     }
 }
 
+// Takes an open token back.
+fn take_back<L: Ledger>(heap: &mut Heap, ledger: &L, token: Token)
+    requires { cause_of (release_checks (state heap.old) token) ≡ None }
+    ensures { state heap.new ≡ with_hold (state heap.old) token.hold 0 }
+{
+    match heap.release(ledger, token) {
+        Ok(()) => {}
+        Err(_) => unreachable(),
+    }
+}
+
+// Takes back the tokens that are left after a difference.
+fn give_back<L: Ledger>(left: &mut Side<L>, right: &mut Side<L>, tokens: &mut Vec<Kept>)
+    requires { Balanced tokens.old.items (state left.old.heap) (state right.old.heap) }
+    ensures kept { tokens.new.items ≡ [] }
+    ensures left { NoneOpen (state left.new.heap) }
+    ensures right { NoneOpen (state right.new.heap) }
+{
+    while let Some(
+        Kept {
+            token,
+            hold: _,
+            cell: _,
+        },
+    ) = tokens.pop()
+    {
+        if left.heap.is_open(&token) {
+            take_back(&mut left.heap, &left.ledger, token);
+        } else {
+            take_back(&mut right.heap, &right.ledger, token);
+        }
+    }
+}
+
 /// Plays rounds, each with two new heaps.
-pub fn play<L: Ledger + Drop>(left: L, right: L, course: &mut Course) -> Result<(), Fault> {
+pub fn play<L: Ledger + Drop>(left: L, right: L, course: &mut Course) -> Result<(), Fault>
+    requires { course.old.tokens.items ≡ [] }
+    ensures { course.new.tokens.items ≡ [] }
+{
     let mut left = Side::new(left, course)?;
     let mut right = Side::new(right, course)?;
     for round in 1..=ROUNDS {
@@ -39,11 +83,34 @@ pub fn play<L: Ledger + Drop>(left: L, right: L, course: &mut Course) -> Result<
     Ok(())
 }
 
+// However the round ends, each token is back after it.
 fn play_round<L: Ledger>(
     left: &mut Side<L>,
     right: &mut Side<L>,
     course: &mut Course,
-) -> Result<(), Fault> {
+) -> Result<(), Fault>
+    requires kept { course.old.tokens.items ≡ [] }
+    requires left { NoneOpen (state left.old.heap) }
+    requires right { NoneOpen (state right.old.heap) }
+    ensures kept { course.new.tokens.items ≡ [] }
+    ensures left { NoneOpen (state left.new.heap) }
+    ensures right { NoneOpen (state right.new.heap) }
+{
+    let outcome = play_calls(left, right, course);
+    give_back(left, right, &mut course.tokens);
+    outcome
+}
+
+fn play_calls<L: Ledger>(
+    left: &mut Side<L>,
+    right: &mut Side<L>,
+    course: &mut Course,
+) -> Result<(), Fault>
+    requires kept { course.old.tokens.items ≡ [] }
+    requires left { NoneOpen (state left.old.heap) }
+    requires right { NoneOpen (state right.old.heap) }
+    ensures { Balanced course.new.tokens.items (state left.new.heap) (state right.new.heap) }
+{
     let mix = Mix::new(&mut course.random, course.round);
     left.begin(course)?;
     right.begin(course)?;
@@ -65,6 +132,7 @@ impl<L: Ledger> Side<L> {
     fn new(ledger: L, course: &Course) -> Result<Side<L>, Fault>
     where
         L: Drop,
+        ensures { IfOk result (λ s. NoneOpen (state s.heap)) }
     {
         Ok(Side {
             ledger,
@@ -73,14 +141,18 @@ impl<L: Ledger> Side<L> {
         })
     }
 
-    fn begin(&mut self, course: &Course) -> Result<(), Fault> {
+    fn begin(&mut self, course: &Course) -> Result<(), Fault>
+        ensures { NoneOpen (state self.new.heap) }
+    {
         self.heap = Heap::new();
         self.model = new_model(course)?;
         Ok(())
     }
 
     // Compares a small heap after every call, a big one less often, and the ledgers now and then.
-    fn step(&mut self, mix: Mix, course: &mut Course) -> Result<(), Fault> {
+    fn step(&mut self, mix: Mix, course: &mut Course) -> Result<(), Fault>
+        ensures { Moves course.old.tokens.items (state self.old.heap) course.new.tokens.items (state self.new.heap) }
+    {
         let room = self.ledger.capacity();
         let call = mix.call(
             &mut course.random,
@@ -99,7 +171,10 @@ impl<L: Ledger> Side<L> {
     }
 
     // Before it is sized, a heap has nothing to do with its ledger.
-    fn look(&mut self, at_heap: bool, at_ledger: bool, course: &mut Course) -> Result<(), Fault> {
+    fn look(&mut self, at_heap: bool, at_ledger: bool, course: &mut Course) -> Result<(), Fault>
+        ensures heap { self.new.heap ≡ self.old.heap }
+        ensures tokens { course.new.tokens ≡ course.old.tokens }
+    {
         let n = self.model.n;
         if at_heap {
             let agrees = heap_agrees(&self.heap, &self.model);
@@ -115,7 +190,9 @@ impl<L: Ledger> Side<L> {
     }
 
     // Offers a heap every token that is left. One that is refused goes to the end, behind those still to come.
-    fn end(&mut self, course: &mut Course) -> Result<(), Fault> {
+    fn end(&mut self, course: &mut Course) -> Result<(), Fault>
+        ensures { Moves course.old.tokens.items (state self.old.heap) course.new.tokens.items (state self.new.heap) }
+    {
         for place in (0..course.tokens.len().min(32) as u16).rev() {
             let call = Call::release(course.tokens.as_slice(), place);
             self.play(call, course)?;
@@ -124,7 +201,9 @@ impl<L: Ledger> Side<L> {
     }
 
     // A call that leaves the slots alone leaves alone what waits in the ledger.
-    fn play(&mut self, call: Call, course: &mut Course) -> Result<(), Fault> {
+    fn play(&mut self, call: Call, course: &mut Course) -> Result<(), Fault>
+        ensures { Moves course.old.tokens.items (state self.old.heap) course.new.tokens.items (state self.new.heap) }
+    {
         let waiting = self.ledger.waiting();
         let told = self.model.told;
         let heard = self.ask(call, &mut course.tokens);
@@ -134,7 +213,9 @@ impl<L: Ledger> Side<L> {
         course.expect(Fault::Waiting, 1, waits)
     }
 
-    fn ask(&mut self, call: Call, tokens: &mut Vec<Kept>) -> Answer {
+    fn ask(&mut self, call: Call, tokens: &mut Vec<Kept>) -> Answer
+        ensures { Moves tokens.old.items (state self.old.heap) tokens.new.items (state self.new.heap) }
+    {
         let result = match call.name {
             Name::Size => self.heap.size(&mut self.ledger, call.n),
             Name::New => return self.new_cell(call.root),
@@ -155,7 +236,9 @@ impl<L: Ledger> Side<L> {
         }
     }
 
-    fn new_cell(&mut self, r: u8) -> Answer {
+    fn new_cell(&mut self, r: u8) -> Answer
+        ensures { (t : Token) → times_open t (state self.new.heap) ≡ times_open t (state self.old.heap) }
+    {
         match self.heap.new_cell(&self.ledger, r) {
             Ok(c) => Answer::Given(c),
             Err(cause) => refused(cause),
@@ -163,7 +246,9 @@ impl<L: Ledger> Side<L> {
     }
 
     // The token is kept with what the model is about to hold.
-    fn hold(&mut self, r: u8, tokens: &mut Vec<Kept>) -> Answer {
+    fn hold(&mut self, r: u8, tokens: &mut Vec<Kept>) -> Answer
+        ensures { Moves tokens.old.items (state self.old.heap) tokens.new.items (state self.new.heap) }
+    {
         if tokens.len() >= tokens.capacity() {
             return Answer::Lost;
         }
@@ -178,7 +263,9 @@ impl<L: Ledger> Side<L> {
         }
     }
 
-    fn release(&mut self, place: u16, tokens: &mut Vec<Kept>) -> Answer {
+    fn release(&mut self, place: u16, tokens: &mut Vec<Kept>) -> Answer
+        ensures { Moves tokens.old.items (state self.old.heap) tokens.new.items (state self.new.heap) }
+    {
         if usize::from(place) >= tokens.len() {
             return Answer::Lost;
         }
