@@ -2,6 +2,7 @@
 use super::model::Answer;
 use heap::Token;
 use std::alloc::Global;
+use std::fmt;
 use trial_tools::Random;
 
 /// A token, and what it names by the model.
@@ -9,6 +10,30 @@ pub struct Kept {
     pub token: Token,
     pub hold: u8,
     pub cell: u16,
+}
+
+/// What differs from the model.
+#[derive(Clone, Copy)]
+pub enum Fault {
+    Memory,
+    Heap,
+    Ledger,
+    Answer,
+    Waiting,
+    Tokens,
+}
+
+impl fmt::Display for Fault {
+    fn fmt<W: fmt::Write>(&self, f: &mut fmt::Formatter<W>) -> fmt::Result {
+        match *self {
+            Fault::Memory => write!(f, "the memory that is left"),
+            Fault::Heap => write!(f, "the heap"),
+            Fault::Ledger => write!(f, "the ledger"),
+            Fault::Answer => write!(f, "the answer"),
+            Fault::Waiting => write!(f, "what waits in the ledger"),
+            Fault::Tokens => write!(f, "the number of tokens"),
+        }
+    }
 }
 
 pub struct Course {
@@ -60,12 +85,7 @@ impl Course {
     }
 
     /// Sees that as many answers are right.
-    pub fn expect(
-        &mut self,
-        what: &'static str,
-        answers: u32,
-        is_right: bool,
-    ) -> Result<(), &'static str> {
+    pub fn expect(&mut self, what: Fault, answers: u32, is_right: bool) -> Result<(), Fault> {
         self.compared = self.compared.saturating_add(u64::from(answers));
         if is_right { Ok(()) } else { Err(what) }
     }
@@ -80,10 +100,10 @@ impl Course {
     }
 
     /// Sees that the heap answers a call as the model does.
-    pub fn expect_answer(&mut self, heard: Answer, expected: Answer) -> Result<(), &'static str> {
+    pub fn expect_answer(&mut self, heard: Answer, expected: Answer) -> Result<(), Fault> {
         self.count(heard);
         self.step = self.step.saturating_add(1);
         self.calls = self.calls.saturating_add(1);
-        self.expect("the answer", 1, heard == expected)
+        self.expect(Fault::Answer, 1, heard == expected)
     }
 }

@@ -9,9 +9,10 @@ mod stacks;
 mod trial;
 
 use anyhow::anyhow;
-use course::{Course, Kept};
+use course::{Course, Fault};
 use heap::Refusal;
 use stacks::every_stack;
+use std::mem::ManuallyDrop;
 
 // The causes of the calls that are played: no work memory is lent to them.
 const CAUSES: [Refusal; 10] = [
@@ -27,12 +28,6 @@ const CAUSES: [Refusal; 10] = [
     Refusal::Token,
 ];
 
-/// Why the program fails. As no token may be let go, it ends with those that no heap took back.
-enum Failure {
-    Left(Kept, Vec<Kept>),
-    Other(anyhow::Error),
-}
-
 fn report_causes(rt: &HostRuntime, refused: &[u64]) -> anyhow::Result<()> {
     for cause in CAUSES {
         let number = cause.number();
@@ -42,11 +37,7 @@ fn report_causes(rt: &HostRuntime, refused: &[u64]) -> anyhow::Result<()> {
     Ok(())
 }
 
-fn report(
-    rt: &HostRuntime,
-    course: &Course,
-    outcome: Result<(), &'static str>,
-) -> anyhow::Result<()> {
+fn report(rt: &HostRuntime, course: &Course, outcome: Result<(), Fault>) -> anyhow::Result<()> {
     println!(rt; "stacks: {}\ncalls: {}", course.stacks, course.calls)?;
     report_causes(rt, &course.refused)?;
     println!(rt;
@@ -64,24 +55,18 @@ fn report(
     Ok(())
 }
 
-fn main(rt: HostRuntime) -> Result<(), Failure> {
+fn main(rt: HostRuntime) -> anyhow::Result<()> {
     // Two heaps have 32 holds between them.
-    let tokens = match Vec::with_capacity(rt.alloc(), 33) {
-        Ok(tokens) => tokens,
-        Err(e) => return Err(Failure::Other(e.into())),
-    };
+    let tokens = Vec::with_capacity(rt.alloc(), 33)?;
     let mut course = Course::new(rt.alloc(), tokens);
     let outcome = every_stack(&mut course);
     let reported = report(&rt, &course, outcome);
-    let mut tokens = course.into_tokens();
-    match tokens.pop() {
-        Some(kept) => Err(Failure::Left(kept, tokens)),
-        None => {
-            tokens.destroy_empty();
-            match reported {
-                Ok(()) => Ok(()),
-                Err(e) => Err(Failure::Other(e)),
-            }
-        }
+    let tokens = course.into_tokens();
+    if tokens.is_empty() {
+        tokens.destroy_empty();
+        return reported;
     }
+    // As no token may be let go, the program ends with those that no heap took back.
+    let _left = unsafe { ManuallyDrop::new_unchecked(tokens) };
+    Err(anyhow!("no heap took back every token"))
 }

@@ -1,7 +1,7 @@
 //! Random calls on two heaps side by side, each with a ledger of its own. Either may be brought the tokens of both.
 use super::calls::{Call, Mix, Name};
 use super::compare::{heap_agrees, heap_answers, ledger_agrees, ledger_answers};
-use super::course::{Course, Kept};
+use super::course::{Course, Fault, Kept};
 use super::model::{Answer, Model};
 use heap::{Heap, Refusal, Unreleased};
 use ledgers::Ledger;
@@ -20,15 +20,15 @@ fn refused(cause: Refusal) -> Answer {
     Answer::Refused(cause.number())
 }
 
-fn new_model(course: &Course) -> Result<Model, &'static str> {
+fn new_model(course: &Course) -> Result<Model, Fault> {
     match Model::new(course.memory) {
         Ok(model) => Ok(model),
-        Err(_) => Err("the memory that is left"),
+        Err(_) => Err(Fault::Memory),
     }
 }
 
 /// Plays rounds, each with two new heaps.
-pub fn play<L: Ledger + Drop>(left: L, right: L, course: &mut Course) -> Result<(), &'static str> {
+pub fn play<L: Ledger + Drop>(left: L, right: L, course: &mut Course) -> Result<(), Fault> {
     let mut left = Side::new(left, course)?;
     let mut right = Side::new(right, course)?;
     for round in 1..=ROUNDS {
@@ -43,7 +43,7 @@ fn play_round<L: Ledger>(
     left: &mut Side<L>,
     right: &mut Side<L>,
     course: &mut Course,
-) -> Result<(), &'static str> {
+) -> Result<(), Fault> {
     let mix = Mix::new(&mut course.random, course.round);
     left.begin(course)?;
     right.begin(course)?;
@@ -58,11 +58,11 @@ fn play_round<L: Ledger>(
     left.end(course)?;
     right.end(course)?;
     let is_none_left = course.tokens.is_empty();
-    course.expect("the number of tokens", 1, is_none_left)
+    course.expect(Fault::Tokens, 1, is_none_left)
 }
 
 impl<L: Ledger> Side<L> {
-    fn new(ledger: L, course: &Course) -> Result<Side<L>, &'static str>
+    fn new(ledger: L, course: &Course) -> Result<Side<L>, Fault>
     where
         L: Drop,
     {
@@ -73,14 +73,14 @@ impl<L: Ledger> Side<L> {
         })
     }
 
-    fn begin(&mut self, course: &Course) -> Result<(), &'static str> {
+    fn begin(&mut self, course: &Course) -> Result<(), Fault> {
         self.heap = Heap::new();
         self.model = new_model(course)?;
         Ok(())
     }
 
     // Compares a small heap after every call, a big one less often, and the ledgers now and then.
-    fn step(&mut self, mix: Mix, course: &mut Course) -> Result<(), &'static str> {
+    fn step(&mut self, mix: Mix, course: &mut Course) -> Result<(), Fault> {
         let room = self.ledger.capacity();
         let call = mix.call(
             &mut course.random,
@@ -99,16 +99,11 @@ impl<L: Ledger> Side<L> {
     }
 
     // Before it is sized, a heap has nothing to do with its ledger.
-    fn look(
-        &mut self,
-        at_heap: bool,
-        at_ledger: bool,
-        course: &mut Course,
-    ) -> Result<(), &'static str> {
+    fn look(&mut self, at_heap: bool, at_ledger: bool, course: &mut Course) -> Result<(), Fault> {
         let n = self.model.n;
         if at_heap {
             let agrees = heap_agrees(&self.heap, &self.model);
-            course.expect("the heap", heap_answers(n), agrees)?;
+            course.expect(Fault::Heap, heap_answers(n), agrees)?;
         }
         if !at_ledger || n == 0 {
             return Ok(());
@@ -116,11 +111,11 @@ impl<L: Ledger> Side<L> {
         self.ledger.settle();
         course.settles = course.settles.saturating_add(1);
         let agrees = ledger_agrees(&self.ledger, &self.model);
-        course.expect("the ledger", ledger_answers(n), agrees)
+        course.expect(Fault::Ledger, ledger_answers(n), agrees)
     }
 
     // Offers a heap every token that is left. One that is refused goes to the end, behind those still to come.
-    fn end(&mut self, course: &mut Course) -> Result<(), &'static str> {
+    fn end(&mut self, course: &mut Course) -> Result<(), Fault> {
         for place in (0..course.tokens.len().min(32) as u16).rev() {
             let call = Call::release(course.tokens.as_slice(), place);
             self.play(call, course)?;
@@ -129,14 +124,14 @@ impl<L: Ledger> Side<L> {
     }
 
     // A call that leaves the slots alone leaves alone what waits in the ledger.
-    fn play(&mut self, call: Call, course: &mut Course) -> Result<(), &'static str> {
+    fn play(&mut self, call: Call, course: &mut Course) -> Result<(), Fault> {
         let waiting = self.ledger.waiting();
         let told = self.model.told;
         let heard = self.ask(call, &mut course.tokens);
         let expected = self.model.call(call, self.ledger.capacity());
         course.expect_answer(heard, expected)?;
         let waits = self.model.told != told || self.ledger.waiting() == waiting;
-        course.expect("what waits in the ledger", 1, waits)
+        course.expect(Fault::Waiting, 1, waits)
     }
 
     fn ask(&mut self, call: Call, tokens: &mut Vec<Kept>) -> Answer {
