@@ -28,17 +28,17 @@ put_back_set (e ∷ es) t s x free =
     ap (λ (u : List ℕ). set u e.slot e.first) (put_back_set es t s x free.1)
     ∙ set_comm (put_back es t) s e.slot x e.first (λ q. free.0 (sym q))
 
-put_back_getD : (es : List Entry) (t : List ℕ) (s : ℕ) → Unlogged s es → slice_index (put_back es t) s ≡ slice_index t s
-put_back_getD [] t s free = refl
-put_back_getD (e ∷ es) t s free =
-    get_or-set_other (put_back es t) e.slot s e.first 0 (λ q. free.0 (sym q)) ∙ put_back_getD es t s free.1
+put_back_get_or : (es : List Entry) (t : List ℕ) (s : ℕ) → Unlogged s es → slice_index (put_back es t) s ≡ slice_index t s
+put_back_get_or [] t s free = refl
+put_back_get_or (e ∷ es) t s free =
+    get_or-set_other (put_back es t) e.slot s e.first 0 (λ q. free.0 (sym q)) ∙ put_back_get_or es t s free.1
 
 -- once the first entry is down, the others are to be put back
 put_back_first : (e : Entry) (es : List Entry) (t : List ℕ) → Unlogged e.slot es → slice_index t e.slot ≡ e.latest
     → slice_set (put_back (e ∷ es) t) e.slot e.latest ≡ put_back es t
 put_back_first e es t free is =
     set-set (put_back es t) e.slot e.first e.latest
-    ∙ ap (set (put_back es t) e.slot) (sym (put_back_getD es t e.slot free ∙ is))
+    ∙ ap (set (put_back es t) e.slot) (sym (put_back_get_or es t e.slot free ∙ is))
     ∙ set-get_or (put_back es t) e.slot 0
 
 -- a latest content does not show once the first contents are put back

@@ -15,6 +15,7 @@ use parts::{Drawing, Edit};
 use queue::Queue;
 use show::part_line;
 use std::io::Read;
+use std::process::ExitCode;
 use std::str;
 use zeros::Zeros;
 
@@ -126,10 +127,11 @@ fn run(rt: &HostRuntime) -> anyhow::Result<()> {
     answer(rt, &mut ledger, &text)
 }
 
-fn main(rt: HostRuntime) -> anyhow::Result<()> {
-    let outcome = run(&rt);
-    if let Err(error) = &outcome {
-        eprintln!(rt; "{error}")?;
-    }
-    outcome
+fn main(rt: HostRuntime) -> ExitCode {
+    let Err(error) = run(&rt) else {
+        return ExitCode::SUCCESS;
+    };
+    // Where the refusal can't be printed either, the status alone tells of it.
+    let _ = eprintln!(rt; "{error}");
+    ExitCode::FAILURE
 }

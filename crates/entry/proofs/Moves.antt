@@ -1,5 +1,5 @@
 -- What the calls of a heap change. Assumes nothing.
-use Rattle.std.proofs.Common.{◌≡◌, ℕ, ◌+◌, ◌-◌, ◌*◌, ◌<◌, ◌≤◌, Bool, true, false, cond, ◌||◌, eqb, ltb, ◌≢◌, List, [], ◌∷◌, length, get_or, set, Some, None, Option, sym, refl, ap, ◌∙◌, subst, ⊎_elim, arith, length-set}
+use Rattle.std.proofs.Common.{◌≡◌, ℕ, ◌-◌, ◌<◌, ◌≤◌, Bool, true, false, cond, ◌||◌, eqb, ltb, ◌≢◌, List, [], ◌∷◌, length, get_or, set, Some, None, sym, refl, ap, ◌∙◌, subst, ⊎_elim, arith, length-set}
 use Rattle.heap.specs.Bits.{is_set}
 use Rattle.heap.specs.Calls.{Next, given, load_checks, root, unsized, with_root, with_slot}
 use Rattle.heap.specs.Keeps.{Held}
@@ -13,7 +13,7 @@ use Rattle.std.proofs.lemmas.List.FromFn.{length-map-range_with_len}
 use Rattle.std.proofs.lemmas.List.{get_or_past, get_or-set_other, get_or-set_same}
 use Rattle.std.proofs.lemmas.Bool.{both_ways, cases_eq, cases_lt, eqb-false}
 use Rattle.ledgers.specs.Meaning.{Ops}
-use Rattle.entry.specs.Entries.{OnlyRoots, OnlyRoot, Slotted, Grown, Added, in_use}
+use Rattle.entry.specs.Entries.{OnlyRoots, OnlyRoot, Slotted, Grown, Added}
 
 pub rooted : (r x : ℕ) (s s' : State) → s' ≡ with_root s r x → OnlyRoot r s s'
 rooted r x s s' e = record {

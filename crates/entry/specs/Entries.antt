@@ -1,7 +1,6 @@
 -- What entering a drawing does to a heap.
-use Rattle.std.specs.Prelude.{◌≡◌, ℕ, ◌+◌, ◌-◌, ◌*◌, ◌/◌, ◌%◌, ◌<◌, ◌≤◌, min, Bool, true, false, cond, ◌≢◌, List, [], ◌∷◌, length, get_or, replicate, Some, None, vec_items, Option, ◌==◌, slice_index, slice_index_or, slice_set}
+use Rattle.std.specs.Prelude.{◌≡◌, ℕ, ◌+◌, ◌-◌, ◌*◌, ◌/◌, ◌%◌, ◌<◌, ◌≤◌, min, true, false, cond, ◌≢◌, List, [], ◌∷◌, length, get_or, replicate, Some, None, vec_items, Option, ◌==◌, slice_index, slice_index_or, slice_set}
 use Rattle.heap.specs.Calls.{release_checks, root}
-use Rattle.heap.specs.Graph.{content}
 use Rattle.heap.specs.Keeps.{Held}
 use Rattle.heap.specs.Refusals.{cause_of}
 use Rattle.heap.specs.States.{State}

@@ -1,5 +1,5 @@
 -- What a ledger tells of the parts.
-use Rattle.std.specs.Prelude.{◌≡◌, ℕ, ◌*◌, ◌<◌, ◌≤◌, List, length, Some, None, vec_items, Decides, Option, Result, slice_index, slice_index_or}
+use Rattle.std.specs.Prelude.{◌≡◌, ℕ, ◌*◌, ◌<◌, ◌≤◌, List, length, Some, vec_items, Decides, slice_index, slice_index_or}
 use Rattle.entry.specs.declared.answers.Answers.{Answers}
 use Rattle.entry.specs.declared.answers.Told.{Told}
 use Rattle.ledgers.specs.Meaning.{Ops, Settled}

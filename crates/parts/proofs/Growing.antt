@@ -20,24 +20,24 @@ pub spaces : (d : Drawing) → length (vec_items d.slots) ≡ 4 * length (known 
 spaces d = omega (arith, d.slots.ok.0, d.slotted, parts d)
 
 -- what stands in a list is the same if defaults come after it
-pub getD_padded : {X : Type 0} (d : X) (xs ys : List X) → ((k : ℕ) → get_or ys k d ≡ d) → (i : ℕ) → get_or (xs ++ ys) i d ≡ get_or xs i d
-getD_padded d [] ys h i = h i
-getD_padded d (x ∷ xs) ys h zero = refl
-getD_padded d (x ∷ xs) ys h (suc i) = getD_padded d xs ys h i
+pub get_or_padded : {X : Type 0} (d : X) (xs ys : List X) → ((k : ℕ) → get_or ys k d ≡ d) → (i : ℕ) → get_or (xs ++ ys) i d ≡ get_or xs i d
+get_or_padded d [] ys h i = h i
+get_or_padded d (x ∷ xs) ys h zero = refl
+get_or_padded d (x ∷ xs) ys h (suc i) = get_or_padded d xs ys h i
 
 abbrev pub empty : List ℕ
 empty = 0 ∷ 0 ∷ 0 ∷ 0 ∷ []
 
-getD_empty : (k : ℕ) → get_or empty k 0 ≡ 0
-getD_empty zero = refl
-getD_empty (suc zero) = refl
-getD_empty (suc (suc zero)) = refl
-getD_empty (suc (suc (suc zero))) = refl
-getD_empty (suc (suc (suc (suc k)))) = refl
+get_or_empty : (k : ℕ) → get_or empty k 0 ≡ 0
+get_or_empty zero = refl
+get_or_empty (suc zero) = refl
+get_or_empty (suc (suc zero)) = refl
+get_or_empty (suc (suc (suc zero))) = refl
+get_or_empty (suc (suc (suc (suc k)))) = refl
 
-getD_unmarked : (k : ℕ) → get_or (false ∷ []) k false ≡ false
-getD_unmarked zero = refl
-getD_unmarked (suc k) = refl
+get_or_unmarked : (k : ℕ) → get_or (false ∷ []) k false ≡ false
+get_or_unmarked zero = refl
+get_or_unmarked (suc k) = refl
 
 pub count_unmarked : (bs : List Bool) → count_by (λ b. b) (bs ++ false ∷ []) ≡ count_by (λ b. b) bs
 count_unmarked bs = omega (arith, sum_by_push (λ b. cond b 1 0) bs false)
@@ -62,12 +62,12 @@ module _ {w : Bor (List ℕ)} {before after : Drawing} (new : Newer w before aft
         record {
           grown = record {
             named = known_newer ∙ sym (added_new (known before) w.now n);
-            told = λ k. ap (λ l. get_or l k false) new.described ∙ getD_padded false (vec_items before.described) (false ∷ []) getD_unmarked k;
+            told = λ k. ap (λ l. get_or l k false) new.described ∙ get_or_padded false (vec_items before.described) (false ∷ []) get_or_unmarked k;
             lined = new.lined;
             referred = new.referred;
           };
           called = (omega arith, omega arith, ap (λ l. get_or l (c - 1) []) known_newer ∙ get_or_push (known before) w.now [] (c - 1) (sym last));
-          same = λ i. ap (λ l. get_or l i 0) new.slots ∙ getD_padded 0 (vec_items before.slots) empty getD_empty i;
+          same = λ i. ap (λ l. get_or l i 0) new.slots ∙ get_or_padded 0 (vec_items before.slots) empty get_or_empty i;
         },
         ap (λ l. get_or l (c - 1) false) new.described ∙ get_or_push (vec_items before.described) false false (c - 1) (marks before ∙ sym last),
       )

@@ -1,7 +1,7 @@
-use Rattle.std.proofs.Common.{◌≡◌, ℕ, sym, ◌∙◌, subst, arith}
+use Rattle.std.proofs.Common.{◌≡◌, ℕ, subst, arith}
 use Rattle.entry.specs.Entries.{Accepted}
 use Rattle.heap.specs.States.{state}
-use Rattle.drawing.proofs.release.Goals as goal
+use Rattle.drawing_in_heap.proofs.release.Goals as goal
 
 pub unreachable-requires : goal.unreachable-requires
 unreachable-requires g c =

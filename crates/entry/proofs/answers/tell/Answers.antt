@@ -1,4 +1,4 @@
-use Rattle.std.proofs.Common.{◌≡◌, ℕ, Some, sym, ap, ◌∙◌}
+use Rattle.std.proofs.Common.{ℕ, Some, sym, ap, ◌∙◌}
 use Rattle.std.proofs.lemmas.Bool.Decides.{Decides-like}
 use Rattle.entry.proofs.answers.tell.Goals as goal
 
@@ -13,5 +13,5 @@ returns g c t agrees settled cell =
       complete = λ enough.
           let all = p.complete l t x enough settled agrees cell in
           number ∙ all.1 ∙ ap (λ (m : ℕ). Some m) (p.exact l t x all.0 settled agrees cell all.1);
-      bare = Decides-like c.is-zero.result (λ e. number ∙ e) (λ e. sym number ∙ e) (c.is-zero.ensures t agrees settled cell);
+      bare = Decides-like c.is_zero.result (λ e. number ∙ e) (λ e. sym number ∙ e) (c.is_zero.ensures t agrees settled cell);
     }

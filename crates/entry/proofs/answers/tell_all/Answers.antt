@@ -27,7 +27,7 @@ loop-cell-preserved g c =
     let inv = c.loop-cell.invariant in
     let told = c.tell.result in
     let before = vec_items c.loop-cell.parts in
-    let pushed = c.push-reserved.ensures.items ∙ ap (λ (xs : List Told). xs ++ told ∷ []) c.reserve.ensures.items in (
+    let pushed = c.push_reserved.ensures.items ∙ ap (λ (xs : List Told). xs ++ told ∷ []) c.reserve.ensures.items in (
       ap length pushed ∙ length_push before told ∙ ap (λ (n : ℕ). n + 1) inv.0,
       subst (λ (xs : List Told). (i : ℕ) (d : Told) → i < k + 1 → Tells o l (get_or cells i 0) (get_or xs i d)) (sym pushed) (told_more o l cells before k told inv.0 inv.1 c.tell.ensures),
     )

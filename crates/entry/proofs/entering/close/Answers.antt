@@ -40,9 +40,9 @@ pub returns-in-Ok : goal.returns-in-Ok
 returns-in-Ok g c =
     let o = g.L.Ledger.ops in
     let fetched = c.in_default.ensures in
-    let forgot = c.in-ok-forget-all.ensures in
+    let forgot = c.in_ok-forget_all.ensures in
     let held = c.in-Ok.ensures in
-    let kept = top_kept c.in-Ok.token _ (state c.forget-all.new.heap) (state c.hold-top.new.heap) held in (
-      closed c.args.cells.now c.in-Ok.token _ (state c.args.heap.now) (state c.fetch.new.heap) (state c.forget-all.new.heap) (state c.hold-top.new.heap) c.min-top.ensures fetched forgot.0 held,
+    let kept = top_kept c.in-Ok.token _ (state c.forget_all.new.heap) (state c.hold_top.new.heap) held in (
+      closed c.args.cells.now c.in-Ok.token _ (state c.args.heap.now) (state c.fetch.new.heap) (state c.forget_all.new.heap) (state c.hold_top.new.heap) c.min-top.ensures fetched forgot.0 held,
       λ h. held_kept o kept.0 kept.1 (forgot.1 (held_kept o fetched.only.kept.cells fetched.only.kept.slots h)),
     )

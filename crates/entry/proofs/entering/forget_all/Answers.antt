@@ -1,4 +1,4 @@
-use Rattle.std.proofs.Common.{◌≡◌, ℕ, ◌+◌, List, get_or, sym, refl, ap, ◌∙◌, subst}
+use Rattle.std.proofs.Common.{ℕ, ◌+◌, List, sym, refl, ◌∙◌, subst}
 use Rattle.entry.specs.Entries.{Forgets, Forgot, Forgotten, cell_of, more, none}
 use Rattle.heap.specs.States.{State, state}
 use Rattle.entry.proofs.entering.forget_all.Goals as goal

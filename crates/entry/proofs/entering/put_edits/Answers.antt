@@ -1,4 +1,4 @@
-use Rattle.std.proofs.Common.{◌≡◌, ℕ, List, get_or, take, sym, ap, ◌∙◌, subst}
+use Rattle.std.proofs.Common.{ℕ, List, get_or, sym, ap, ◌∙◌, subst}
 use Rattle.entry.proofs.Lists.{edited_more}
 use Rattle.entry.proofs.Moves.{slotted_then}
 use Rattle.entry.specs.Entries.{Slotted, edited, put_at}

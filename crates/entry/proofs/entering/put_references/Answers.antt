@@ -1,5 +1,5 @@
-use Rattle.std.proofs.Common.{◌≡◌, ℕ, cond, eqb, List, get_or, take, sym, ap, ◌∙◌, subst, arith}
-use Rattle.entry.proofs.Lists.{referred_more, step}
+use Rattle.std.proofs.Common.{ℕ, eqb, List, get_or, take, sym, ap, ◌∙◌, subst}
+use Rattle.entry.proofs.Lists.{referred_more}
 use Rattle.entry.proofs.Moves.{slotted_then}
 use Rattle.entry.specs.Entries.{Slotted, put_at, referred}
 use Rattle.heap.specs.States.{state}

@@ -1,5 +1,5 @@
-use Rattle.std.proofs.Common.{◌≡◌, ℕ, ◌+◌, ◌-◌, ◌*◌, ◌/◌, ◌%◌, ◌<◌, ◌≢◌, List, get_or, set, sym, ap, ◌∙◌, subst, arith, rules}
-use Rattle.entry.proofs.Moves.{held_kept, kept_then, load_some, looked, root_cleared, root_put, rooted, slotted, slotted_after}
+use Rattle.std.proofs.Common.{◌≡◌, ℕ, ◌+◌, ◌-◌, ◌*◌, ◌<◌, ◌≢◌, List, get_or, set, sym, ap, ◌∙◌, subst, arith, rules}
+use Rattle.entry.proofs.Moves.{held_kept, kept_then, load_some, root_cleared, root_put, rooted, slotted, slotted_after}
 use Rattle.entry.specs.Entries.{Forgot, OnlyRoot, Slotted, cell_of}
 use Rattle.heap.specs.Calls.{root, slot_of, with_root, with_slot}
 use Rattle.heap.specs.Graph.{content}
@@ -31,16 +31,16 @@ forgot x f s a b d s' sought load some seen clear store =
 
 pub returns : goal.returns
 returns g c =
-    let load = c.in-ok-load.ensures.does.0 in
-    let clear = c.in-ok-clear.ensures.does.0 in
-    let store = c.in-ok-store.ensures.does in
+    let load = c.in_ok-load.ensures.does.0 in
+    let clear = c.in_ok-clear.ensures.does.0 in
+    let store = c.in_ok-store.ensures.does in
     let a = state c.seek.new.heap in
     let b = state c.load.new.self in
     let d = state c.clear.new.self in
     let f = c.digit-f.result in
     let seen : root b 0 ≡ cell_of c.args.cells.now c.args.part = search rules in (
-      forgot _ f (state c.args.heap.now) a b d (state c.store.new.self) c.in-ok-seek.ensures load.state (load_some a 0 2 f load.cause) seen clear.state store.0.state,
+      forgot _ f (state c.args.heap.now) a b d (state c.store.new.self) c.in_ok-seek.ensures load.state (load_some a 0 2 f load.cause) seen clear.state store.0.state,
       λ h.
-          let kept = c.in-ok-seek.ensures.kept in
-          c.in-ok-store.ensures.keeps.0 (c.in-ok-clear.ensures.keeps.0 (c.in-ok-load.ensures.keeps.0 (held_kept g.L.Ledger.ops kept.cells kept.slots h))),
+          let kept = c.in_ok-seek.ensures.kept in
+          c.in_ok-store.ensures.keeps.0 (c.in_ok-clear.ensures.keeps.0 (c.in_ok-load.ensures.keeps.0 (held_kept g.L.Ledger.ops kept.cells kept.slots h))),
     )

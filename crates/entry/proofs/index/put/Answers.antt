@@ -1,4 +1,4 @@
-use Rattle.std.proofs.Common.{◌≡◌, ℕ, ◌+◌, ◌-◌, ◌*◌, ◌/◌, ◌%◌, ◌≢◌, List, set, sym, ap, ◌∙◌, subst, arith}
+use Rattle.std.proofs.Common.{◌≡◌, ℕ, ◌+◌, ◌-◌, ◌*◌, ◌/◌, ◌%◌, ◌≢◌, List, set, ap, ◌∙◌, subst, arith}
 use Rattle.entry.proofs.Moves.{held_kept, kept_then, slotted, slotted_after}
 use Rattle.entry.specs.Entries.{Fetched, Slotted, cell_of, put_at}
 use Rattle.heap.specs.Calls.{root, slot_of, with_slot}
@@ -19,11 +19,11 @@ put-slotted cells slot content s m n s' owner target e =
 
 pub returns : goal.returns
 returns g c =
-    let owner = c.in-ok-fetch.ensures in
-    let target = c.in-ok-fetch-2.ensures in
-    let store = c.in-ok-store.ensures.does in (
+    let owner = c.in_ok-fetch.ensures in
+    let target = c.in_ok-fetch-2.ensures in
+    let store = c.in_ok-store.ensures.does in (
       put-slotted c.args.cells.now c.args.slot c.args.content (state c.args.heap.now) (state c.fetch.new.heap) (state c.fetch-2.new.heap) (state c.store.new.self) owner target store.0.state,
       λ h.
           let kept = kept_then owner.only.kept target.only.kept in
-          c.in-ok-store.ensures.keeps.0 (held_kept g.L.Ledger.ops kept.cells kept.slots h),
+          c.in_ok-store.ensures.keeps.0 (held_kept g.L.Ledger.ops kept.cells kept.slots h),
     )

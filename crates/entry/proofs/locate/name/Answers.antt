@@ -15,10 +15,10 @@ nameless shown names i part same place past =
 
 pub returns-then-i-names : goal.returns-then-i-names
 returns-then-i-names c =
-    let place : c.saturating-sub-i.result ≡ c.args.part - 1 = c.saturating-sub-i.ensures ∙ ap (λ (k : ℕ). k - 1) c.from.ensures in
+    let place : c.saturating_sub-i.result ≡ c.args.part - 1 = c.saturating_sub-i.ensures ∙ ap (λ (k : ℕ). k - 1) c.from.ensures in
     named _ _ _ c.args.part _ c.names-names.ensures place c.if-i-names.true
 
 pub returns-else-i-names : goal.returns-else-i-names
 returns-else-i-names c =
-    let place : c.saturating-sub-i.result ≡ c.args.part - 1 = c.saturating-sub-i.ensures ∙ ap (λ (k : ℕ). k - 1) c.from.ensures in
+    let place : c.saturating_sub-i.result ≡ c.args.part - 1 = c.saturating_sub-i.ensures ∙ ap (λ (k : ℕ). k - 1) c.from.ensures in
     nameless _ _ _ c.args.part c.names-names.ensures place c.if-i-names.false

@@ -1,4 +1,4 @@
-use Rattle.std.proofs.Common.{◌≡◌, ℕ, ◌+◌, ◌-◌, ◌*◌, ◌/◌, ◌%◌, ◌≤◌, ◌≢◌, List, length, get_or, sym, ap, ◌∙◌, subst, arith}
+use Rattle.std.proofs.Common.{◌≡◌, ℕ, ◌+◌, ◌-◌, ◌*◌, ◌/◌, ◌%◌, ◌≤◌, ◌≢◌, List, length, get_or, sym, ap, ◌∙◌, arith}
 use Rattle.entry.proofs.Moves.{kept_then, load_some, looked, root_put, rooted}
 use Rattle.entry.specs.Entries.{Fetched, OnlyRoots, Points, cell_of}
 use Rattle.heap.specs.Calls.{root, with_root}
@@ -19,10 +19,10 @@ loaded cells slot part cell s m s' owner some load seen within is = (
   kept_then owner.only.kept (rooted 0 _ m s' load).kept,
 )
 
-pub returns-in-Some-part-in : goal.returns-in-Some-part-in
-returns-in-Some-part-in g c =
-    let load = c.in-ok-load.ensures.does.0 in
+pub returns-in-Some-part_in : goal.returns-in-Some-part_in
+returns-in-Some-part_in g c =
+    let load = c.in_ok-load.ensures.does.0 in
     let mid = state c.fetch.new.heap in
-    let found = c.in-Some-part-in.ensures in
-    loaded c.args.cells.now c.args.slot c.in-Some-part-in.part c.in-Some.cell (state c.args.heap.now) mid (state c.load.new.self) c.in-ok-fetch.ensures
+    let found = c.in-Some-part_in.ensures in
+    loaded c.args.cells.now c.args.slot c.in-Some-part_in.part c.in-Some.cell (state c.args.heap.now) mid (state c.load.new.self) c.in_ok-fetch.ensures
     (load_some mid 0 1 (c.args.slot % 4) load.cause) load.state (looked (state c.load.new.self) 0 c.in-Some.cell (sym c.in-Some.ensures)) found.0 found.1
