@@ -3,9 +3,7 @@
 
 mod kinds;
 mod plain;
-mod random;
 mod sight;
-mod stack;
 mod stacks;
 mod trial;
 

@@ -1,11 +1,10 @@
 //! Every stack of up to three layers over the bottom ledger of one kind of count.
 //! Each function adds a layer to a ledger of any type, so that no stack is spelt out.
-use super::kinds::Kind;
-use super::stack::{Layer, Stack};
 use super::trial::{Course, Fault, play};
 use coalescing::Log;
 use ledgers::{Bottom, Ledger};
 use queue::Queue;
+use trial_tools::{Kind, Layer, Stack};
 use zeros::Zeros;
 
 const LAYERS: [Layer; 3] = [Layer::Queue, Layer::Log, Layer::Zeros];

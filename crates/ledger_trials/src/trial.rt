@@ -1,12 +1,11 @@
 //! One trial: random notes to a ledger, whose answers are compared with a plain count.
 use super::kinds::KindName;
 use super::plain::Plain;
-use super::random::Random;
 use super::sight::Sight;
-use super::stack::Stack;
 use ledgers::Ledger;
 use std::alloc::{AllocError, Global};
 use std::fmt;
+use trial_tools::{Random, Stack};
 
 /// How many cells the ledgers have room for.
 pub const ROOM: u16 = 40;
