@@ -51,9 +51,6 @@ own_more cells c s s' own added = record {
       (cases_lt j (length cells));
 }
 
-pub own_none : (s : State) → Own [] s
-own_none s = record { used = λ i lt. absurd (omega arith); apart = λ i j before lt. absurd (omega arith) }
-
 -- One more slot that was read.
 pub pointing_more : (cells t : List ℕ) (k : ℕ) (parts : List ℕ) (part : ℕ) → Pointing cells t k parts → Points cells t k part → Pointing cells t (k + 1) (parts ++ part ∷ [])
 pointing_more cells t k parts part before last = record {

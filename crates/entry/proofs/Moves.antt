@@ -34,9 +34,6 @@ kept_then a b = record {
   used = b.used ∙ a.used;
 }
 
-pub root_then : {r : ℕ} {s m s' : State} → OnlyRoot r s m → OnlyRoot r m s' → OnlyRoot r s s'
-root_then a b = record { kept = kept_then a.kept b.kept; others = λ q ne. b.others q ne ∙ a.others q ne }
-
 -- A root that was looked at.
 pub looked : (s : State) (r x : ℕ) → look_root s r ≡ Some x → root s r ≡ x
 looked s r x e = go (ltb r 16) e
