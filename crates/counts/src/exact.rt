@@ -58,10 +58,7 @@ impl Count for Exact {
     }
 
     fn number(self) -> Option<u16> {
-        if self.value == STUCK {
-            return None;
-        }
-        Some(self.value)
+        (self.value != STUCK).then_some(self.value)
     }
 
     fn from_row(row: ExactRow) -> Exact {

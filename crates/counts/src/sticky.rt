@@ -65,10 +65,7 @@ impl Count for Sticky {
     }
 
     fn number(self) -> Option<u16> {
-        if self.value == STUCK {
-            return None;
-        }
-        Some(self.value as u16)
+        (self.value != STUCK).then_some(u16::from(self.value))
     }
 
     fn from_row(row: StickyRow) -> Sticky {

@@ -65,14 +65,11 @@ impl Count for Tally {
     }
 
     fn number(self) -> Option<u16> {
-        if self.ones == STUCK {
-            return None;
-        }
-        Some(self.ones.count_ones() as u16)
+        (self.ones != STUCK).then_some(self.ones.count_ones() as u16)
     }
 
     fn from_row(row: TallyRow) -> Tally {
-        if row.ones as u16 + 1 != 1 << row.ones.count_ones() {
+        if u16::from(row.ones) + 1 != 1 << row.ones.count_ones() {
             return Tally { ones: STUCK };
         }
         Tally { ones: row.ones }

@@ -1,7 +1,7 @@
 -- What a write to one row does to what the rows tell. Assumes nothing.
-use Rattle.std.proofs.Common.{◌≡◌, ℕ, suc, ◌+◌, ◌<◌, ◌⊎◌, List, [], ◌∷◌, ◌++◌, map, length, get_or, drop, set, replicate, Some, None, Option, sym, ap, ◌∙◌, ⊎_elim, arith}
+use Rattle.std.proofs.Common.{◌≡◌, ℕ, suc, ◌+◌, ◌<◌, ◌≤◌, ◌⊎◌, List, [], ◌∷◌, ◌++◌, map, length, get_or, take, drop, set, replicate, Some, None, Option, sym, ap, ◌∙◌, ⊎_elim, arith}
 use Rattle.ledgers.specs.Bottoms.{Counts, counts_of}
-use Rattle.std.proofs.lemmas.List.{append_assoc, drop_more, get_or-map, get_or_past, length-map, length-replicate, map-set, replicate_more, set_at, set_past}
+use Rattle.std.proofs.lemmas.List.{append_assoc, drop_more, get_or-map, get_or_past, append-nil, drop-map, drop_all, length-map, length-replicate, length-take-le, map-append, map-set, replicate_more, set_at, set_past}
 
 module _ {R : Type 0} (reads : R → Option ℕ) (rows : List R) where
   -- a row as the counts have it
@@ -41,3 +41,14 @@ renew_more reads start rows i row lt new inv =
     ∙ set_at front _ (drop (i + 1) (map reads start)) told_0 i long
     ∙ sym (append_assoc front (told_0 ∷ []) (drop (i + 1) (map reads start)))
     ∙ ap (λ (v : List (Option ℕ)). v ++ drop (i + 1) (map reads start)) (replicate_more i told_0)
+
+-- the first n rows are new, and the others as they were
+pub renewed : {R : Type 0} (reads : R → Option ℕ) (start items : List R) (n i : ℕ) → n ≤ length start → i ≡ length (take n start)
+    → map reads items ≡ replicate i (Some 0) ++ drop i (map reads (take n start))
+    → map reads (items ++ drop n start) ≡ replicate n (Some 0) ++ drop n (map reads start)
+renewed reads start items n i fits all inv =
+    let long : length (take n start) ≡ n = length-take-le n start fits in
+    let none : drop i (map reads (take n start)) ≡ [] = drop_all i (map reads (take n start)) (omega (arith, length-map (take n start) reads)) in
+    map-append reads items (drop n start)
+    ∙ (λ j. (inv ∙ ap (λ v. replicate i (Some 0) ++ v) none ∙ append-nil (replicate i (Some 0)) ∙ ap (λ k. replicate k (Some 0)) (all ∙ long)) j
+    ++ sym (drop-map reads n start) j)

@@ -26,11 +26,15 @@ Right ceiling n None h = ceiling < 4 * n
 abbrev pub cleared : ℕ → Counts → Counts
 cleared n counts = None ∷ (replicate n (Some 0) ++ drop (n + 1) counts)
 
+-- The count of cell c is changed by f, and no other.
+abbrev pub changed : (Option ℕ → Option ℕ) → ℕ → Counts → Counts
+changed f c counts = slice_set counts c (f (slice_index_or counts c None))
+
 abbrev pub less : ℕ → Counts → Counts
-less c counts = slice_set counts c (lowered (slice_index_or counts c None))
+less = changed lowered
 
 abbrev pub more : ℕ → ℕ → Counts → Counts
-more ceiling c counts = slice_set counts c (raised ceiling (slice_index_or counts c None))
+more ceiling = changed (raised ceiling)
 
 -- A note moves a reference: old goes down, then new goes up. Place 0 stays at nothing.
 abbrev pub moved : ℕ → ℕ → ℕ → Counts → Counts

@@ -1,5 +1,6 @@
 //! The bottom ledger: one count a cell, of any kind, in memory lent by the caller.
 ghost use Rattle.std.specs.Prelude.{◌≡◌};
+ghost use Rattle.counts.specs.Counting.{set_to};
 ghost use Rattle.ledgers.specs.BottomLaws.{bottom_lawful};
 ghost use Rattle.ledgers.specs.Bottoms.{bottom_ops, counts_of};
 
@@ -61,8 +62,8 @@ impl<'a, K: Count> Ledger for Bottom<'a, K> {
         if old == new || !in_range(self.n, slot, old, new) {
             return;
         }
-        rows::lower::<K>(self.rows, old);
-        rows::raise::<K>(self.rows, new);
+        rows::change::<K, _>(self.rows, old, K::down);
+        rows::change::<K, _>(self.rows, new, K::up);
     }
 
     fn settle(&mut self) {}
@@ -71,18 +72,19 @@ impl<'a, K: Count> Ledger for Bottom<'a, K> {
         if c > self.n {
             return None;
         }
-        let rows = &*self.rows;
-        rows::read::<K>(rows, c)
+        rows::read::<K>(self.rows, c)
     }
 
     fn next_zero(&self, c: u16) -> Option<u16> {
-        let rows = &*self.rows;
-        rows::first_zero::<K>(rows, c, self.n)
+        rows::first_zero::<K>(self.rows, c, self.n)
     }
 
     fn recount(&mut self, c: u16, m: u16) {
         if c >= 1 && c <= self.n {
-            rows::write::<K>(self.rows, c, m);
+            let set = |_: K| -> K
+                ensures { K.Count.tells result ≡ set_to K.Count.ceiling m }
+            { K::set(m) };
+            rows::change::<K, _>(self.rows, c, set);
         }
     }
 }

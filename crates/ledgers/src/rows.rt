@@ -1,7 +1,6 @@
 //! Counts in a memory of rows, where cell `c` lies at `c - 1`. A number that is no cell there changes nothing.
-ghost use Rattle.std.specs.Prelude.{◌≡◌, ◌≤◌, ◌++◌, map, length, drop, replicate, Some, None, slice_index_or, slice_set};
-ghost use Rattle.counts.specs.Counting.{set_to};
-ghost use Rattle.ledgers.specs.Bottoms.{counts_of, less, more};
+ghost use Rattle.std.specs.Prelude.{◌≡◌, ℕ, ◌≤◌, ◌++◌, map, length, drop, replicate, Some, None, Option, slice_index_or};
+ghost use Rattle.ledgers.specs.Bottoms.{changed, counts_of};
 ghost use Rattle.ledgers.specs.Rows.{FirstZero, Placed};
 
 use counts::Count;
@@ -17,9 +16,7 @@ fn place(c: u16, len: usize) -> Option<usize>
 pub(crate) fn read<K: Count>(rows: &[K::Row], c: u16) -> Option<u16>
     ensures { result ≡ slice_index_or (counts_of K.Count.reads rows.now) c None }
 {
-    let Some(i) = place(c, rows.len()) else {
-        return None;
-    };
+    let i = place(c, rows.len())?;
     K::from_row(rows[i]).number()
 }
 
@@ -27,6 +24,7 @@ pub(crate) fn read<K: Count>(rows: &[K::Row], c: u16) -> Option<u16>
 pub(crate) fn first_zero<K: Count>(rows: &[K::Row], c: u16, n: u16) -> Option<u16>
     ensures { FirstZero (counts_of K.Count.reads rows.now) c n result }
 {
+    // Of a range that contains its end, the library doesn't say that `find` finds the first.
     for d in c.max(1)..=n {
         if read::<K>(rows, d) == Some(0) {
             return Some(d);
@@ -35,28 +33,14 @@ pub(crate) fn first_zero<K: Count>(rows: &[K::Row], c: u16, n: u16) -> Option<u1
     None
 }
 
-pub(crate) fn lower<K: Count>(rows: &mut [K::Row], c: u16)
-    ensures { counts_of K.Count.reads rows.new ≡ less c (counts_of K.Count.reads rows.old) }
+// Changes the count of cell `c`, which `step` gets and answers.
+pub(crate) fn change<K: Count, F: FnOnce(K) -> K>(rows: &mut [K::Row], c: u16, step: F)
+    requires { (k : K) → F.pre step k }
+    ensures { (f : Option ℕ → Option ℕ) → (c ≡ 0 → f None ≡ None) → ((k k' : K) → F.post step k k' → K.Count.tells k' ≡ f (K.Count.tells k))
+        → counts_of K.Count.reads rows.new ≡ changed f c (counts_of K.Count.reads rows.old) }
 {
     if let Some(i) = place(c, rows.len()) {
-        rows[i] = K::from_row(rows[i]).down().to_row();
-    }
-}
-
-pub(crate) fn raise<K: Count>(rows: &mut [K::Row], c: u16)
-    ensures { counts_of K.Count.reads rows.new ≡ more K.Count.ceiling c (counts_of K.Count.reads rows.old) }
-{
-    if let Some(i) = place(c, rows.len()) {
-        rows[i] = K::from_row(rows[i]).up().to_row();
-    }
-}
-
-pub(crate) fn write<K: Count>(rows: &mut [K::Row], c: u16, m: u16)
-    requires { 1 ≤ c }
-    ensures { counts_of K.Count.reads rows.new ≡ slice_set (counts_of K.Count.reads rows.old) c (set_to K.Count.ceiling m) }
-{
-    if let Some(i) = place(c, rows.len()) {
-        rows[i] = K::set(m).to_row();
+        rows[i] = step(K::from_row(rows[i])).to_row();
     }
 }
 
@@ -65,7 +49,7 @@ pub(crate) fn renew<K: Count>(rows: &mut [K::Row], n: usize)
     requires { n ≤ length rows.old }
     ensures { map K.Count.reads rows.new ≡ replicate n (Some 0) ++ drop n (map K.Count.reads rows.old) }
 {
-    for i in 0..n {
-        rows[i] = K::new().to_row();
+    for row in rows[..n].iter_mut() {
+        *row = K::new().to_row();
     }
 }

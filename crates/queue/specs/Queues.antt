@@ -52,7 +52,7 @@ module _ {L : Type 0} (o : Ops L) where
     pub joins : InRange o q.below s old new → held q.inner < 64 → (q'.below ≡ q.below) × (waiting_notes q'.inner ≡ waiting_notes q.inner ++ note_of s old new ∷ [])
     pub starts : InRange o q.below s old new → held q.inner ≡ 64 → Passed (reverse (waiting_notes q.inner)) q.below q'.below × (waiting_notes q'.inner ≡ note_of s old new ∷ [])
 
-  -- AllByRecursion notes go down in order; then the ledger below is settled.
+  -- All notes go down in order; then the ledger below is settled.
   pub record QueueSettles (q q' : Queue L) : Type 0 where
     pub between : L
     pub passed : Passed (reverse (waiting_notes q.inner)) q.below between

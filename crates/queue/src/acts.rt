@@ -8,6 +8,15 @@ use ledgers::{Ledger, TooManyCells, in_range};
 
 const ROOM: usize = 64;
 
+// Notes go to a ledger, in order.
+fn note_all<L: Ledger>(ledger: &mut L, notes: &[Note])
+    ensures { Passed L.Ledger.ops (reverse notes.now) ledger.old ledger.new }
+{
+    for note in notes {
+        ledger.note(note.slot, note.old, note.new);
+    }
+}
+
 impl<L: Ledger> Queue<L> {
     /// A queue in which nothing waits.
     pub fn new(below: L) -> Queue<L>
@@ -20,7 +29,7 @@ impl<L: Ledger> Queue<L> {
             new: 0,
         };
         let inner = Notes {
-            at: [none; 64],
+            at: [none; ROOM],
             len: 0,
         };
         Queue { below, inner }
@@ -32,10 +41,7 @@ impl<L: Ledger> Queue<L> {
         ensures empty { self.new.inner ≡ emptied self.old.inner }
     {
         let held = self.inner.len.min(ROOM);
-        for i in 0..held {
-            let note = self.inner.at[i];
-            self.below.note(note.slot, note.old, note.new);
-        }
+        note_all(&mut self.below, &self.inner.at[..held]);
         self.inner.len = 0;
     }
 }
@@ -76,9 +82,8 @@ impl<L: Ledger> Ledger for Queue<L> {
         if self.inner.len >= ROOM {
             self.pass();
         }
-        let i = self.inner.len;
-        self.inner.at[i] = Note { slot, old, new };
-        self.inner.len = i + 1;
+        self.inner.at[self.inner.len] = Note { slot, old, new };
+        self.inner.len += 1;
     }
 
     fn settle(&mut self) {

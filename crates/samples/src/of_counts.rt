@@ -35,7 +35,7 @@ fn raised<K: Count>(times: u8) -> K
     ensures { K.Count.tells result ≡ ups K.Count.ceiling times }
 {
     let mut count = K::new();
-    for i in 0..times {
+    for _ in 0..times {
         count = count.up();
     }
     count

@@ -35,11 +35,11 @@ impl Bits {
         }
         let i = (c as usize - 1) / 64;
         let mask = 1u64 << ((c - 1) % 64);
-        self.words[i] = if on {
-            self.words[i] | mask
+        if on {
+            self.words[i] |= mask;
         } else {
-            self.words[i] & !mask
-        };
+            self.words[i] &= !mask;
+        }
     }
 
     /// The first cell from `c` on whose bit is set.
@@ -47,6 +47,7 @@ impl Bits {
         ensures { FirstSet self.now c result }
     {
         let from = c.saturating_sub(1) as usize;
+        // The answer is made of a word's index, and the first word begins anywhere: an iterator would have to be told both.
         for i in from / 64..16 {
             // Only in the first word are there bits to pass over.
             let skip = from.saturating_sub(64 * i) as u32;

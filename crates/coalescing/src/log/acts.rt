@@ -15,6 +15,15 @@ fn send<L: Ledger>(below: &mut L, entry: Entry)
     }
 }
 
+/// Passes entries down, in order.
+fn send_all<L: Ledger>(below: &mut L, entries: &[Entry])
+    ensures { Passed L.Ledger.ops entries.now below.old below.new }
+{
+    for entry in entries {
+        send(below, *entry);
+    }
+}
+
 impl<L: Ledger> Log<L> {
     /// A log with no entries.
     pub fn new(below: L) -> Log<L>
@@ -41,10 +50,7 @@ impl<L: Ledger> Log<L> {
         ensures none { self.new.inner ≡ emptied self.old.inner }
     {
         let size = self.inner.size();
-        for i in 0..size {
-            let entry = self.inner.at[i];
-            send(&mut self.below, entry);
-        }
+        send_all(&mut self.below, &self.inner.at[..size]);
         self.inner.len = 0;
     }
 

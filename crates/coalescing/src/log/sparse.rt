@@ -55,9 +55,8 @@ impl Entries {
         ensures added { entries self.new ≡ entries self.old ++ entry ∷ [] }
         ensures kept { WellFormed self.old → Unlogged entry.slot (entries self.old) → WellFormed self.new }
     {
-        let i = self.len;
-        self.index[entry.slot as usize] = i as u8;
-        self.at[i] = entry;
-        self.len = i + 1;
+        self.index[entry.slot as usize] = self.len as u8;
+        self.at[self.len] = entry;
+        self.len += 1;
     }
 }

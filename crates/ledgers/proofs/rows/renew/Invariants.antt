@@ -1,5 +1,5 @@
 use Rattle.std.proofs.Common.{◌≡◌, ◌++◌, map, drop, replicate, Some}
 use Rattle.ledgers.proofs.rows.renew.Given as goal
 
-abbrev pub invariant-loop-i : goal.invariant-loop-i
-invariant-loop-i g l = map g.K.Count.reads l.rows ≡ replicate l.i (Some 0) ++ drop l.i (map g.K.Count.reads l.initial.rows)
+abbrev pub invariant-loop-row : goal.invariant-loop-row
+invariant-loop-row g l = map g.K.Count.reads l.row-items ≡ replicate l.row-index (Some 0) ++ drop l.row-index (map g.K.Count.reads l.initial.row-items)
