@@ -1,5 +1,5 @@
 use Rattle.std.proofs.Common.{ap, ◌∙◌}
-use Rattle.ledgers.proofs.RowLaws.{row_read, row_written, no_row_read, no_row_written}
+use Rattle.ledgers.proofs.RowLaws.{row_read, row_written}
 use Rattle.ledgers.proofs.rows.change.Goals as goal
 
 pub returns-in-Some : goal.returns-in-Some
@@ -8,8 +8,3 @@ returns-in-Some g c = λ f none does.
     let was = row_read g.K.Count.reads c.args.rows.now _ _ _ at.0 at.1 c.index-rows-i.is in
     row_written g.K.Count.reads c.args.rows.now _ _ _ _ at.0
     (c.to_row.ensures.meaning ∙ does _ _ c.step.ensures ∙ ap f (c.from_row.ensures ∙ was))
-
-pub returns-in_default : goal.returns-in_default
-returns-in_default g c = λ f none does.
-    let out = c.in_default.ensures in
-    no_row_written g.K.Count.reads c.args.rows.now _ _ (λ e. ap f (no_row_read g.K.Count.reads c.args.rows.now _ out) ∙ none e) out

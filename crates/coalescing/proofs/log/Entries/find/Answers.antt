@@ -1,13 +1,7 @@
-use Rattle.std.proofs.Common.{◌≡◌, length, arith, rules}
-use Rattle.coalescing.proofs.Sparse.{search_finds, search_fails}
+use Rattle.std.proofs.Common.{arith}
+use Rattle.coalescing.proofs.Sparse.{search_fails}
 use Rattle.coalescing.proofs.log.Entries.find.Goals as goal
 use Rattle.coalescing.proofs.log.Entries.find.Goals.{else-i-size-via-then-i-size+else-self-i, else-i-size-via-else-i-size}
-
-pub returns-then-self-i : goal.returns-then-self-i
-returns-then-self-i c =
-    let e = c.args.self.now in
-    let long : length e.at ≡ 64 = search rules in
-    search_finds e _ c.args.slot long (omega arith) c.if-self-i.true
 
 pub returns-else-i-size : goal.returns-else-i-size
 returns-else-i-size c =
