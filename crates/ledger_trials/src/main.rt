@@ -1,25 +1,20 @@
 //! Trials of the ledgers: random notes go through every stack of layers, over every kind of count, against a plain recount.
 #![tactic(auto)]
 
-mod kinds;
 mod plain;
 mod sight;
 mod stacks;
 mod trial;
 
 use anyhow::anyhow;
-use counts::{Exact, ExactRow, Sticky, StickyRow, Tally, TallyRow};
-use kinds::KindName;
+use counts::{Exact, Sticky, Tally};
 use stacks::every_stack;
-use trial::{Course, Fault, ROOM};
+use trial::{Course, Fault};
 
 fn every_kind(course: &mut Course) -> Result<(), Fault> {
-    course.kind = KindName::Exact;
-    every_stack::<Exact>(&mut [ExactRow { value: 0 }; ROOM as usize], course)?;
-    course.kind = KindName::Sticky;
-    every_stack::<Sticky>(&mut [StickyRow { value: 0 }; ROOM as usize], course)?;
-    course.kind = KindName::Tally;
-    every_stack::<Tally>(&mut [TallyRow { ones: 0 }; ROOM as usize], course)
+    every_stack::<Exact>(course)?;
+    every_stack::<Sticky>(course)?;
+    every_stack::<Tally>(course)
 }
 
 fn main(rt: HostRuntime) -> anyhow::Result<()> {
@@ -32,7 +27,9 @@ fn main(rt: HostRuntime) -> anyhow::Result<()> {
     if let Err(fault) = outcome {
         println!(rt;
             "{} over {}, round {}: {fault}",
-            course.stack, course.kind, course.round
+            course.stack(),
+            course.kind,
+            course.round
         )?;
         return Err(anyhow!("a ledger differs from the plain count"));
     }

@@ -5,54 +5,25 @@ ghost use Rattle.ledgers.specs.Tables.{holders};
 
 use std::alloc::{AllocError, Global};
 
-/// The item at place `i`, or `other` past the end.
-pub fn item_or<T: Copy>(items: &[T], i: u16, other: T) -> T
-    ensures { result ≡ slice_index_or items.now i other }
-{
-    match items.get(usize::from(i)) {
-        Some(item) => *item,
-        None => other,
-    }
-}
-
-// How many slots contain `c`.
-fn holders_in(slots: &[u16], c: u16) -> usize
-    ensures { result ≡ holders c slots.now }
-{
-    let mut count = 0;
-    for content in slots {
-        if *content == c {
-            count += 1;
-        }
-    }
-    count
-}
-
 // What is told of a cell with one more holder.
 fn up(told: Option<u16>, top: u16) -> Option<u16>
     ensures { result ≡ raised top told }
 {
-    match told {
-        Some(m) if m < top => Some(m + 1),
-        _ => None,
-    }
+    told.filter(|m| *m < top).map(|m| m + 1)
 }
 
 // What is told of a cell with one less.
 fn down(told: Option<u16>) -> Option<u16>
     ensures { result ≡ lowered told }
 {
-    match told {
-        Some(m) => Some(m.saturating_sub(1)),
-        None => None,
-    }
+    told.map(|m| m.saturating_sub(1))
 }
 
 // What is told of a cell that is counted anew.
 fn set(m: u16, top: u16) -> Option<u16>
     ensures { result ≡ set_to top m }
 {
-    if m <= top { Some(m) } else { None }
+    (m <= top).then_some(m)
 }
 
 /// Four slots for each of `n` cells. Nothing is told of 0 and of `n + 1`, which are no cells, so that their counts are stuck.
@@ -67,11 +38,8 @@ pub struct Plain {
 impl Plain {
     /// A table of empty slots, for a ledger whose ceiling is `top`.
     pub fn new(heap: Global, n: u16, top: u16) -> Result<Plain, AllocError> {
-        let mut counts = Vec::new(heap);
-        counts.push(None)?;
-        for _ in 0..n {
-            counts.push(Some(0))?;
-        }
+        let mut counts = vec![in heap; None]?;
+        counts.resize(1 + usize::from(n), Some(0))?;
         counts.push(None)?;
         Ok(Plain {
             n,
@@ -94,14 +62,14 @@ impl Plain {
     pub fn content(&self, slot: u16) -> u16
         ensures { result ≡ slice_index self.now.slots.items slot }
     {
-        item_or(self.slots.as_slice(), slot, 0)
+        self.slots.get(usize::from(slot)).copied().unwrap_or(0)
     }
 
     /// What a ledger tells in which nothing ever waits.
     pub fn count(&self, c: u16) -> Option<u16>
         ensures { result ≡ slice_index_or self.now.counts.items c None }
     {
-        item_or(self.counts.as_slice(), c, None)
+        self.counts.get(usize::from(c)).copied().flatten()
     }
 
     fn set_count(&mut self, c: u16, told: Option<u16>) {
@@ -126,7 +94,7 @@ impl Plain {
     pub fn holders(&self, c: u16) -> usize
         ensures { result ≡ holders c self.now.slots.items }
     {
-        holders_in(self.slots.as_slice(), c)
+        self.slots.iter().filter(|content| **content == c).count()
     }
 
     /// Sets the count of `c` to its holders, and answers both. There are fewer slots than a count has room for.

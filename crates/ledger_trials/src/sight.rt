@@ -1,53 +1,58 @@
 //! All that can be seen of a ledger.
-ghost use Rattle.std.specs.Prelude.{◌≡◌, get_or, None, slice_index_or};
+ghost use Rattle.std.specs.Prelude.{◌≡◌, None, map, slice_index_or};
 ghost use Rattle.ledgers.specs.Rows.{FirstZero};
 
-use super::plain::item_or;
 use ledgers::Ledger;
 use std::alloc::{AllocError, Global};
 
-/// What a ledger answers. The lists begin with the answer for 0, and end with that for the number after the last cell.
+/// What a ledger tells of a cell.
+#[derive(Clone, Copy)]
+pub struct Told {
+    pub number: Option<u16>,
+    pub next_zero: Option<u16>,
+}
+
+/// What a ledger answers. `told` begins with what is told of 0, and ends with what is told of the number after the last cell.
 #[derive(Drop)]
 pub struct Sight {
     pub capacity: u16,
     pub cells: u16,
     pub waiting: u16,
-    numbers: Vec<Option<u16>>,
-    next_zeros: Vec<Option<u16>>,
+    told: Vec<Told>,
 }
 
 impl Sight {
     pub fn of<L: Ledger>(ledger: &L, heap: Global) -> Result<Sight, AllocError> {
-        let mut numbers = Vec::new(heap);
-        let mut next_zeros = Vec::new(heap);
-        for c in 0..=ledger.cells().saturating_add(1) {
-            numbers.push(ledger.number(c))?;
-            next_zeros.push(ledger.next_zero(c))?;
-        }
+        let cells = ledger.cells();
+        let told = (0..=cells.saturating_add(1))
+            .map(|c| Told {
+                number: ledger.number(c),
+                next_zero: ledger.next_zero(c),
+            })
+            .collect(heap)?;
         Ok(Sight {
             capacity: ledger.capacity(),
-            cells: ledger.cells(),
+            cells,
             waiting: ledger.waiting(),
-            numbers,
-            next_zeros,
+            told,
         })
     }
 
     pub fn number(&self, c: u16) -> Option<u16>
-        ensures { result ≡ slice_index_or self.now.numbers.items c None }
+        ensures { result ≡ slice_index_or (map (λ t. t.number) self.now.told.items) c None }
     {
-        item_or(self.numbers.as_slice(), c, None)
+        self.told.get(usize::from(c))?.number
     }
 
     pub fn next_zero(&self, c: u16) -> Option<u16>
-        ensures { result ≡ get_or self.now.next_zeros.items c None }
+        ensures { result ≡ slice_index_or (map (λ t. t.next_zero) self.now.told.items) c None }
     {
-        item_or(self.next_zeros.as_slice(), c, None)
+        self.told.get(usize::from(c))?.next_zero
     }
 
     /// The first cell from `c` on of which the number told is 0.
     pub fn first_zero(&self, c: u16) -> Option<u16>
-        ensures { FirstZero self.now.numbers.items c self.now.cells result }
+        ensures { FirstZero (map (λ t. t.number) self.now.told.items) c self.now.cells result }
     {
         for d in c.max(1)..=self.cells {
             if self.number(d) == Some(0) {

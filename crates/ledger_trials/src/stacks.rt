@@ -1,78 +1,73 @@
 //! Every stack of up to three layers over the bottom ledger of one kind of count.
-//! Each function adds a layer to a ledger of any type, so that no stack is spelt out.
-use super::trial::{Course, Fault, play};
+use super::trial::{Course, Fault, ROOM, play};
 use coalescing::Log;
 use ledgers::{Bottom, Ledger};
 use queue::Queue;
-use trial_tools::{Kind, Layer, Stack};
+use trial_tools::{Kind, Layer};
 use zeros::Zeros;
 
 const LAYERS: [Layer; 3] = [Layer::Queue, Layer::Log, Layer::Zeros];
 
-pub fn every_stack<K: Kind>(rows: &mut [K::Row], course: &mut Course) -> Result<(), Fault> {
-    over_bottom::<K>(rows, Stack::Bare, course)?;
+/// How many layers may be put on a ledger. Each makes another type, so that the most have to be known beforehand.
+trait Height {
+    /// Plays with the ledger under these layers, the lowest first. Those past the height are left out.
+    fn play_under<L: Ledger + Drop>(
+        ledger: L,
+        layers: &[Layer],
+        course: &mut Course,
+    ) -> Result<(), Fault>;
+}
+
+struct Top;
+
+struct Below<H>(H);
+
+impl Height for Top {
+    fn play_under<L: Ledger + Drop>(
+        ledger: L,
+        _layers: &[Layer],
+        course: &mut Course,
+    ) -> Result<(), Fault> {
+        play(ledger, course)
+    }
+}
+
+impl<H: Height> Height for Below<H> {
+    fn play_under<L: Ledger + Drop>(
+        ledger: L,
+        layers: &[Layer],
+        course: &mut Course,
+    ) -> Result<(), Fault> {
+        match layers {
+            [] => play(ledger, course),
+            [Layer::Queue, above @ ..] => H::play_under(Queue::new(ledger), above, course),
+            [Layer::Log, above @ ..] => H::play_under(Log::new(ledger), above, course),
+            [Layer::Zeros, above @ ..] => H::play_under(Zeros::new(ledger), above, course),
+        }
+    }
+}
+
+pub fn every_stack<K: Kind>(course: &mut Course) -> Result<(), Fault> {
+    course.kind = K::NAME;
+    let rows = &mut vec![in course.memory; K::row(0); usize::from(ROOM)]?;
+    over_bottom::<K>(rows, &[], course)?;
     for a in LAYERS {
-        over_bottom::<K>(rows, Stack::One(a), course)?;
+        over_bottom::<K>(rows, &[a], course)?;
         for b in LAYERS {
-            over_bottom::<K>(rows, Stack::Two(a, b), course)?;
+            over_bottom::<K>(rows, &[a, b], course)?;
             for c in LAYERS {
-                over_bottom::<K>(rows, Stack::Three(a, b, c), course)?;
+                over_bottom::<K>(rows, &[a, b, c], course)?;
             }
         }
     }
     Ok(())
 }
 
-// The ledger may begin in any state, so the rows hold random bytes.
 fn over_bottom<K: Kind>(
     rows: &mut [K::Row],
-    stack: Stack,
+    layers: &[Layer],
     course: &mut Course,
 ) -> Result<(), Fault> {
-    course.begin(stack);
-    for i in 0..rows.len() {
-        rows[i] = K::row(course.bits());
-    }
-    let bottom = Bottom::<K>::new(rows);
-    match stack {
-        Stack::Bare => play(bottom, course),
-        Stack::One(a) => add_one(bottom, a, course),
-        Stack::Two(a, b) => add_two(bottom, a, b, course),
-        Stack::Three(a, b, c) => add_three(bottom, a, b, c, course),
-    }
-}
-
-fn add_one<L: Ledger + Drop>(ledger: L, a: Layer, course: &mut Course) -> Result<(), Fault> {
-    match a {
-        Layer::Queue => play(Queue::new(ledger), course),
-        Layer::Log => play(Log::new(ledger), course),
-        Layer::Zeros => play(Zeros::new(ledger), course),
-    }
-}
-
-fn add_two<L: Ledger + Drop>(
-    ledger: L,
-    a: Layer,
-    b: Layer,
-    course: &mut Course,
-) -> Result<(), Fault> {
-    match a {
-        Layer::Queue => add_one(Queue::new(ledger), b, course),
-        Layer::Log => add_one(Log::new(ledger), b, course),
-        Layer::Zeros => add_one(Zeros::new(ledger), b, course),
-    }
-}
-
-fn add_three<L: Ledger + Drop>(
-    ledger: L,
-    a: Layer,
-    b: Layer,
-    c: Layer,
-    course: &mut Course,
-) -> Result<(), Fault> {
-    match a {
-        Layer::Queue => add_two(Queue::new(ledger), b, c, course),
-        Layer::Log => add_two(Log::new(ledger), b, c, course),
-        Layer::Zeros => add_two(Zeros::new(ledger), b, c, course),
-    }
+    course.begin::<K>(rows, layers)?;
+    <Below<Below<Below<Top>>> as Height>::play_under(Bottom::<K>::new(rows), layers, course)
 }

@@ -3,8 +3,10 @@
 
 mod kinds;
 mod random;
+mod rows;
 mod stack;
 
-pub use kinds::Kind;
+pub use kinds::{Kind, KindName};
 pub use random::Random;
+pub use rows::scramble;
 pub use stack::{Layer, Stack};

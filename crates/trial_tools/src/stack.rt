@@ -8,44 +8,35 @@ pub enum Layer {
     Zeros,
 }
 
-/// The layers over a bottom ledger, the lowest first.
-#[derive(Clone, Copy, Debug)]
-pub enum Stack {
-    Bare,
-    One(Layer),
-    Two(Layer, Layer),
-    Three(Layer, Layer, Layer),
-}
-
-impl Stack {
-    /// Whether nothing ever waits, so that what is told follows each note.
-    pub fn is_prompt(&self) -> bool {
-        match *self {
-            Stack::Bare => true,
-            Stack::One(a) => a == Layer::Zeros,
-            Stack::Two(a, b) => a == Layer::Zeros && b == Layer::Zeros,
-            Stack::Three(a, b, c) => a == Layer::Zeros && b == Layer::Zeros && c == Layer::Zeros,
-        }
-    }
-}
-
 impl fmt::Display for Layer {
     fn fmt<W: fmt::Write>(&self, f: &mut fmt::Formatter<W>) -> fmt::Result {
-        match *self {
-            Layer::Queue => write!(f, "queue"),
-            Layer::Log => write!(f, "log"),
-            Layer::Zeros => write!(f, "zero table"),
-        }
+        f.write_str(match self {
+            Layer::Queue => "queue",
+            Layer::Log => "log",
+            Layer::Zeros => "zero table",
+        })
     }
 }
 
-impl fmt::Display for Stack {
+/// The layers over a bottom ledger, the lowest first.
+#[derive(Clone, Copy, Debug)]
+pub struct Stack<'a>(pub &'a [Layer]);
+
+impl<'a> Stack<'a> {
+    /// Whether nothing ever waits, so that what is told follows each note.
+    pub fn is_prompt(self) -> bool {
+        self.0.iter().all(|layer| *layer == Layer::Zeros)
+    }
+}
+
+impl<'a> fmt::Display for Stack<'a> {
     fn fmt<W: fmt::Write>(&self, f: &mut fmt::Formatter<W>) -> fmt::Result {
-        match *self {
-            Stack::Bare => write!(f, "no layer"),
-            Stack::One(a) => write!(f, "{a}"),
-            Stack::Two(a, b) => write!(f, "{b} over {a}"),
-            Stack::Three(a, b, c) => write!(f, "{c} over {b} over {a}"),
+        let [lowest, above @ ..] = self.0 else {
+            return f.write_str("no layer");
+        };
+        for layer in above.iter().rev() {
+            write!(f, "{layer} over ")?;
         }
+        write!(f, "{lowest}")
     }
 }

@@ -14,7 +14,7 @@ use Rattle.heap.specs.declared.token.Token.{Token}
 use Rattle.ledgers.specs.Meaning.{Ops}
 use Rattle.refusals.specs.declared.refusal.Refusal.{Refusal}
 use Rattle.trials.specs.Tokens.{Balanced, NoneOpen, is_like, kept_like, times_open}
-use Rattle.trials.specs.declared.course.Kept.{Kept}
+use Rattle.trials.specs.declared.kept.Kept.{Kept}
 
 -- What is open is read in the holds alone.
 pub same_open : (t : Token) (s s' : State) → s'.graph.holds ≡ s.graph.holds → times_open t s' ≡ times_open t s
@@ -113,9 +113,13 @@ none_open h t e = let bound = h.holds t.hold in shut _ t.cell (omega (arith, bou
 zeros : (n k : ℕ) → ◌≡◌ {A = ℕ} (get_or (replicate n 0) k 0) 0
 zeros n k = ⊎_elim (λ (h : k < n). get_or-replicate n k 0 0 h) (λ (h : n ≤ k). get_or-eq_default (replicate n 0) 0 (omega (arith, length-replicate {A = ℕ} n 0, h))) (cases_lt k n)
 
-pub none_open_at_first : (n : ℕ) (t : Token) → times_open t (sized n) ≡ 0
+none_open_at_first : (n : ℕ) (t : Token) → times_open t (sized n) ≡ 0
 unfolding times_open
 none_open_at_first n t = shut _ t.cell (zeros 16 t.hold)
+
+-- A new heap has no cells.
+pub none_open_anew : (s : State) → s ≡ sized 0 → NoneOpen s
+none_open_anew s e t = ap (times_open t) e ∙ none_open_at_first 0 t
 
 unsized_passed : (a b c : Bool) (x y z : Refusal) → cond a (Some x) (cond (not b) (Some y) (cond c (Some z) None)) ≡ None → b ≡ true
 unsized_passed true b c x y z e = absurd cc

@@ -3,7 +3,7 @@ use Rattle.std.specs.Prelude.{◌≡◌, ℕ, ◌+◌, Bool, cond, ◌&&◌, Lis
 use Rattle.heap.specs.Calls.{open_token}
 use Rattle.heap.specs.States.{State}
 use Rattle.heap.specs.declared.token.Token.{Token}
-use Rattle.trials.specs.declared.course.Kept.{Kept}
+use Rattle.trials.specs.declared.kept.Kept.{Kept}
 
 -- Whether a token names the hold and the cell that another names.
 abbrev pub is_like : Token → Token → Bool

@@ -1,56 +1,53 @@
 //! The calls of a program that uses a heap.
-use super::course::Kept;
+use super::kept::Kept;
 use super::model::Model;
 use trial_tools::Random;
 
 #[derive(Clone, Copy)]
-pub enum Name {
-    Size,
-    New,
-    Clear,
-    Copy,
-    Load,
-    Store,
-    Hold,
-    Release,
-}
-
-/// A call. What its name doesn't ask for is 0.
-#[derive(Clone, Copy)]
-pub struct Call {
-    pub name: Name,
-    /// The root that is changed, or whose cell is loaded from, stored into or held.
-    pub root: u8,
-    /// The other root of a copy, a load or a store, or the hold to release.
-    pub other: u8,
-    pub slot: u8,
-    /// The number of cells to size for, or the cell whose hold is released.
-    pub n: u16,
-    /// Where the token to release is kept.
-    pub place: u16,
+pub enum Call {
+    Size {
+        n: u16,
+    },
+    New {
+        r: u8,
+    },
+    Clear {
+        r: u8,
+    },
+    Copy {
+        r: u8,
+        s: u8,
+    },
+    Load {
+        r: u8,
+        s: u8,
+        f: u8,
+    },
+    Store {
+        r: u8,
+        f: u8,
+        s: u8,
+    },
+    Hold {
+        r: u8,
+    },
+    /// With the token that is kept at this place, which names this hold and this cell.
+    Release {
+        place: usize,
+        hold: usize,
+        cell: u16,
+    },
 }
 
 impl Call {
-    fn new(name: Name) -> Call {
-        Call {
-            name,
-            root: 0,
-            other: 0,
-            slot: 0,
-            n: 0,
-            place: 0,
-        }
-    }
-
-    /// A release with the token at this place.
-    pub fn release(tokens: &[Kept], place: u16) -> Call {
-        let mut call = Call::new(Name::Release);
-        call.place = place;
-        if let Some(kept) = tokens.get(usize::from(place)) {
-            call.other = kept.hold;
-            call.n = kept.cell;
-        }
-        call
+    /// A release with the token at this place, if one is there.
+    pub fn release(tokens: &[Kept], place: usize) -> Option<Call> {
+        let kept = tokens.get(place)?;
+        Some(Call::Release {
+            place,
+            hold: kept.hold,
+            cell: kept.cell,
+        })
     }
 }
 
@@ -58,7 +55,10 @@ impl Call {
 fn stray(random: &mut Random, bound: u8) -> u8 {
     match random.below(64) {
         0 => bound,
-        1 => bound.saturating_add((random.bits() & 0xff) as u8),
+        1 => {
+            let [past, _] = random.bits().to_le_bytes();
+            bound.saturating_add(past)
+        }
         _ => random.below(u16::from(bound)) as u8,
     }
 }
@@ -109,47 +109,52 @@ impl Mix {
         }
     }
 
-    fn name(&self, random: &mut Random, has_tokens: bool) -> Name {
-        if random.below(32) < self.news {
-            return Name::New;
+    // A release of one of the tokens, as often as this round has it.
+    fn release(&self, random: &mut Random, tokens: &[Kept]) -> Option<Call> {
+        if tokens.is_empty() || random.below(8) >= self.releases {
+            return None;
         }
-        match random.below(32) {
-            0..=1 => Name::Size,
-            2 => Name::Clear,
-            3..=7 => Name::Copy,
-            8..=11 => Name::Load,
-            12..=23 => Name::Store,
-            _ if has_tokens && random.below(8) < self.releases => Name::Release,
-            _ => Name::Hold,
-        }
+        let kept = tokens.len().min(32) as u16;
+        Call::release(tokens, usize::from(random.below(kept)))
     }
 
     /// A call of the heap that the model follows, whose ledger has room for `room` cells.
     pub fn call(&self, random: &mut Random, model: &Model, room: u16, tokens: &[Kept]) -> Call {
-        let mut call = Call::new(self.name(random, !tokens.is_empty()));
-        match call.name {
-            Name::Size => call.n = self.cells(random, room),
-            Name::New | Name::Clear => call.root = stray(random, 16),
-            Name::Copy => {
-                call.root = stray(random, 16);
-                call.other = source(random, model);
-            }
-            Name::Load => {
-                call.other = stray(random, 16);
-                call.root = source(random, model);
-                call.slot = stray(random, 4);
-            }
-            Name::Store => {
-                call.root = source(random, model);
-                call.other = source(random, model);
-                call.slot = stray(random, 4);
-            }
-            Name::Hold => call.root = source(random, model),
-            Name::Release => {
-                let kept = tokens.len().min(32) as u16;
-                return Call::release(tokens, random.below(kept));
-            }
+        if random.below(32) < self.news {
+            return Call::New {
+                r: stray(random, 16),
+            };
         }
-        call
+        match random.below(32) {
+            0..=1 => Call::Size {
+                n: self.cells(random, room),
+            },
+            2 => Call::Clear {
+                r: stray(random, 16),
+            },
+            3..=7 => Call::Copy {
+                r: stray(random, 16),
+                s: source(random, model),
+            },
+            8..=11 => Call::Load {
+                r: stray(random, 16),
+                s: source(random, model),
+                f: stray(random, 4),
+            },
+            12..=23 => self.store(random, model),
+            _ => match self.release(random, tokens) {
+                Some(release) => release,
+                None => Call::Hold {
+                    r: source(random, model),
+                },
+            },
+        }
+    }
+
+    fn store(&self, random: &mut Random, model: &Model) -> Call {
+        let r = source(random, model);
+        let s = source(random, model);
+        let f = stray(random, 4);
+        Call::Store { r, f, s }
     }
 }

@@ -9,28 +9,16 @@ pub fn heap_answers(n: u16) -> u32 {
 }
 
 pub fn heap_agrees(heap: &Heap, model: &Model) -> bool {
-    let mut agrees = heap.cells() == model.n && heap.live() == model.live();
-    for r in 0..=16 {
-        agrees = agrees && heap.root(r) == model.root(r);
-    }
-    agrees && cells_agree(heap, model)
-}
-
-fn cells_agree(heap: &Heap, model: &Model) -> bool {
-    for c in 0..=model.n.saturating_add(1) {
-        if !cell_agrees(heap, model, c) {
-            return false;
-        }
-    }
-    true
+    heap.cells() == model.n
+        && usize::from(heap.live()) == model.live()
+        && (0..=16).all(|r| heap.root(r) == model.root(r))
+        && (0..=model.n.saturating_add(1)).all(|c| cell_agrees(heap, model, c))
 }
 
 fn cell_agrees(heap: &Heap, model: &Model, c: u16) -> bool {
-    let mut agrees = heap.in_use(c) == model.in_use(c) && heap.is_suspect(c) == model.is_suspect(c);
-    for f in 0..=4 {
-        agrees = agrees && heap.slot(c, f) == model.slot(c, f);
-    }
-    agrees
+    heap.in_use(c) == model.in_use(c)
+        && heap.is_suspect(c) == model.is_suspect(c)
+        && (0..=4).all(|f| heap.slot(c, f) == model.slot(c, f))
 }
 
 /// How many answers of a ledger of `n` cells are compared.
@@ -56,7 +44,7 @@ pub fn ledger_agrees<L: Ledger>(ledger: &L, model: &Model) -> bool {
 fn is_right(told: Option<u16>, c: u16, model: &Model, top: u16) -> bool {
     let is_cell = model.in_use(c).is_some();
     match told {
-        Some(m) => is_cell && m == model.holders(c),
+        Some(m) => is_cell && usize::from(m) == model.holders(c),
         None => !is_cell || model.n.saturating_mul(4) > top,
     }
 }

@@ -1,20 +1,10 @@
 //! Where the trials are, and what they came to so far.
-ghost use Rattle.std.specs.Prelude.{◌≡◌};
-
 use super::model::Answer;
-use heap::Token;
-use std::alloc::Global;
+use std::alloc::{AllocError, Global};
 use std::fmt;
 use trial_tools::Random;
 
-/// A token, and what it names by the model.
-pub struct Kept {
-    pub token: Token,
-    pub hold: u8,
-    pub cell: u16,
-}
-
-/// What differs from the model.
+/// What differs from the model, or failed.
 #[derive(Clone, Copy)]
 pub enum Fault {
     Memory,
@@ -25,23 +15,28 @@ pub enum Fault {
     Tokens,
 }
 
-impl fmt::Display for Fault {
-    fn fmt<W: fmt::Write>(&self, f: &mut fmt::Formatter<W>) -> fmt::Result {
-        match *self {
-            Fault::Memory => write!(f, "the memory that is left"),
-            Fault::Heap => write!(f, "the heap"),
-            Fault::Ledger => write!(f, "the ledger"),
-            Fault::Answer => write!(f, "the answer"),
-            Fault::Waiting => write!(f, "what waits in the ledger"),
-            Fault::Tokens => write!(f, "the number of tokens"),
-        }
+impl From<AllocError> for Fault {
+    fn from(_: AllocError) -> Fault {
+        Fault::Memory
     }
 }
 
+impl fmt::Display for Fault {
+    fn fmt<W: fmt::Write>(&self, f: &mut fmt::Formatter<W>) -> fmt::Result {
+        f.write_str(match self {
+            Fault::Memory => "the memory that is left",
+            Fault::Heap => "the heap",
+            Fault::Ledger => "the ledger",
+            Fault::Answer => "the answer",
+            Fault::Waiting => "what waits in the ledger",
+            Fault::Tokens => "the number of tokens",
+        })
+    }
+}
+
+#[derive(Drop)]
 pub struct Course {
     pub memory: Global,
-    /// The tokens of the open holds of both heaps.
-    pub tokens: Vec<Kept>,
     pub random: Random,
     pub stacks: u32,
     pub round: u32,
@@ -55,12 +50,9 @@ pub struct Course {
 }
 
 impl Course {
-    pub fn new(memory: Global, tokens: Vec<Kept>) -> Course
-        ensures { result.tokens ≡ tokens }
-    {
+    pub fn new(memory: Global) -> Course {
         Course {
             memory,
-            tokens,
             random: Random::new(0),
             stacks: 0,
             round: 0,
@@ -72,48 +64,25 @@ impl Course {
         }
     }
 
-    pub fn into_tokens(self) -> Vec<Kept>
-        ensures { result ≡ self.tokens }
-    {
-        let Course {
-            memory: _,
-            tokens,
-            random: _,
-            stacks: _,
-            round: _,
-            step: _,
-            calls: _,
-            refused: _,
-            settles: _,
-            compared: _,
-        } = self;
-        tokens
+    /// Goes on to the next stack, with random numbers of its own.
+    pub fn begin(&mut self) {
+        self.stacks = self.stacks.saturating_add(1);
+        self.random = Random::new(u64::from(self.stacks));
     }
 
     /// Sees that as many answers are right.
-    pub fn expect(&mut self, what: Fault, answers: u32, is_right: bool) -> Result<(), Fault>
-        ensures { self.new.tokens ≡ self.old.tokens }
-    {
+    pub fn expect(&mut self, what: Fault, answers: u32, is_right: bool) -> Result<(), Fault> {
         self.compared = self.compared.saturating_add(u64::from(answers));
         if is_right { Ok(()) } else { Err(what) }
     }
 
-    // Counts a refusal by its number.
-    fn count(&mut self, heard: Answer)
-        ensures { self.new.tokens ≡ self.old.tokens }
-    {
-        if let Answer::Refused(number) = heard {
-            if let Some(times) = self.refused.get_mut(usize::from(number)) {
+    /// Sees that the heap answers a call as the model does.
+    pub fn expect_answer(&mut self, heard: Answer, expected: Answer) -> Result<(), Fault> {
+        if let Err(cause) = heard {
+            if let Some(times) = self.refused.get_mut(usize::from(cause.number())) {
                 *times = times.saturating_add(1);
             }
         }
-    }
-
-    /// Sees that the heap answers a call as the model does.
-    pub fn expect_answer(&mut self, heard: Answer, expected: Answer) -> Result<(), Fault>
-        ensures { self.new.tokens ≡ self.old.tokens }
-    {
-        self.count(heard);
         self.step = self.step.saturating_add(1);
         self.calls = self.calls.saturating_add(1);
         self.expect(Fault::Answer, 1, heard == expected)

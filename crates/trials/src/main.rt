@@ -4,6 +4,7 @@
 mod calls;
 mod compare;
 mod course;
+mod kept;
 mod model;
 mod stacks;
 mod trial;
@@ -55,11 +56,7 @@ fn report(rt: &HostRuntime, course: &Course, outcome: Result<(), Fault>) -> anyh
 }
 
 fn main(rt: HostRuntime) -> anyhow::Result<()> {
-    // Two heaps have 32 holds between them.
-    let tokens = Vec::with_capacity(rt.alloc(), 33)?;
-    let mut course = Course::new(rt.alloc(), tokens);
+    let mut course = Course::new(rt.alloc());
     let outcome = every_stack(&mut course);
-    let reported = report(&rt, &course, outcome);
-    course.into_tokens().destroy_empty();
-    reported
+    report(&rt, &course, outcome)
 }

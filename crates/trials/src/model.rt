@@ -1,29 +1,24 @@
 //! What a heap is compared with: a plain model, written from the rules in words.
-use super::calls::{Call, Name};
+use super::calls::Call;
+use heap::Refusal;
 use std::alloc::{AllocError, Global};
 
-/// What a call comes to.
-#[derive(Clone, Copy, PartialEq, Eq)]
-pub enum Answer {
-    Done,
-    /// The cell that is given out.
-    Given(u16),
-    /// By the number of its cause.
-    Refused(u8),
-    /// No token, or no room for one, which no model answers.
-    Lost,
-}
+/// What a call comes to: the cell that it gives out, if it gives one, or why it is refused.
+pub type Answer = Result<Option<u16>, Refusal>;
 
 // Where a content stands: a root, a hold, or a slot of a cell.
 #[derive(Clone, Copy)]
 enum Place {
     Root(u8),
-    Hold(u8),
+    Hold(usize),
     Slot(u16, u8),
 }
 
-fn item(items: &[u16], i: usize) -> u16 {
-    items.get(i).copied().unwrap_or(0)
+#[derive(Clone, Copy)]
+struct Cell {
+    slots: [u16; 4],
+    is_used: bool,
+    is_suspect: bool,
 }
 
 fn set_item(items: &mut [u16], i: usize, new: u16) {
@@ -32,27 +27,14 @@ fn set_item(items: &mut [u16], i: usize, new: u16) {
     }
 }
 
-fn set_flag(flags: &mut [bool], c: u16) {
-    if let Some(flag) = flags.get_mut(usize::from(c)) {
-        *flag = true;
-    }
-}
-
-// Four slots a cell. There is no cell 0, and its slots are never written.
-fn slot_number(c: u16, f: u8) -> usize {
-    4 * usize::from(c) + usize::from(f)
-}
-
-/// Cells lie at their numbers, so that the first entries are of no cell.
+/// Cells lie at their numbers, so that the first entry is of no cell.
 #[derive(Drop)]
 pub struct Model {
     /// The number of cells.
     pub n: u16,
-    roots: Vec<u16>,
-    holds: Vec<u16>,
-    slots: Vec<u16>,
-    used: Vec<bool>,
-    suspects: Vec<bool>,
+    roots: [u16; 16],
+    holds: [u16; 16],
+    cells: Vec<Cell>,
     last: u16,
     /// How often the ledger has been cleared for this heap, or told of a slot that changed.
     pub told: u32,
@@ -61,28 +43,26 @@ pub struct Model {
 impl Model {
     /// A model with no cells, and memory for as many as a heap may get.
     pub fn new(memory: Global) -> Result<Model, AllocError> {
+        let free = Cell {
+            slots: [0; 4],
+            is_used: false,
+            is_suspect: false,
+        };
         Ok(Model {
             n: 0,
-            roots: vec![in memory; 0; 16]?,
-            holds: vec![in memory; 0; 16]?,
-            slots: vec![in memory; 0; 4100]?,
-            used: vec![in memory; false; 1025]?,
-            suspects: vec![in memory; false; 1025]?,
+            roots: [0; 16],
+            holds: [0; 16],
+            cells: vec![in memory; free; 1025]?,
             last: 0,
             told: 0,
         })
     }
 
-    fn content(&self, place: Place) -> u16 {
-        match place {
-            Place::Root(r) => item(&self.roots, usize::from(r)),
-            Place::Hold(k) => item(&self.holds, usize::from(k)),
-            Place::Slot(c, f) => item(&self.slots, slot_number(c, f)),
+    fn cell(&self, c: u16) -> Option<Cell> {
+        if c == 0 || c > self.n {
+            return None;
         }
-    }
-
-    fn has(&self, c: u16) -> bool {
-        c > 0 && c <= self.n
+        self.cells.get(usize::from(c)).copied()
     }
 
     pub fn root(&self, r: u8) -> Option<u16> {
@@ -90,89 +70,87 @@ impl Model {
     }
 
     pub fn slot(&self, c: u16, f: u8) -> Option<u16> {
-        if !self.has(c) || f > 3 {
-            return None;
-        }
-        Some(self.content(Place::Slot(c, f)))
+        self.cell(c)?.slots.get(usize::from(f)).copied()
     }
 
     pub fn in_use(&self, c: u16) -> Option<bool> {
-        if !self.has(c) {
-            return None;
-        }
-        self.used.get(usize::from(c)).copied()
+        Some(self.cell(c)?.is_used)
     }
 
     pub fn is_suspect(&self, c: u16) -> Option<bool> {
-        if !self.has(c) {
-            return None;
-        }
-        self.suspects.get(usize::from(c)).copied()
+        Some(self.cell(c)?.is_suspect)
     }
 
-    pub fn live(&self) -> u16 {
-        let mut live = 0u16;
-        for c in 1..=self.n {
-            if self.in_use(c) == Some(true) {
-                live = live.saturating_add(1);
-            }
-        }
-        live
+    pub fn live(&self) -> usize {
+        self.cells.iter().filter(|cell| cell.is_used).count()
     }
 
     /// How many slots contain `c`.
-    pub fn holders(&self, c: u16) -> u16 {
-        let mut found = 0u16;
-        for content in self.slots.iter().take(slot_number(self.n, 4)) {
-            if *content == c {
-                found = found.saturating_add(1);
-            }
+    pub fn holders(&self, c: u16) -> usize {
+        let mut found = 0usize;
+        for cell in self.cells.iter() {
+            let here = cell.slots.iter().filter(|content| **content == c).count();
+            found = found.saturating_add(here);
         }
         found
     }
 
+    fn content(&self, place: Place) -> u16 {
+        let content = match place {
+            Place::Root(r) => self.root(r),
+            Place::Hold(k) => self.holds.get(k).copied(),
+            Place::Slot(c, f) => self.slot(c, f),
+        };
+        content.unwrap_or(0)
+    }
+
     // Goes on after the last given, and round from `n` to 1.
     fn next_free(&self) -> Option<u16> {
-        for step in 0..self.n {
-            let c = 1 + self.last.saturating_add(step) % self.n;
-            if self.in_use(c) == Some(false) {
-                return Some(c);
-            }
-        }
-        None
+        (self.last.saturating_add(1)..=self.n)
+            .chain(1..=self.last)
+            .find(|c| self.in_use(*c) == Some(false))
     }
 
     /// The first hold that is empty.
-    pub fn empty_hold(&self) -> Option<u8> {
-        for k in 0..16u8 {
-            if self.content(Place::Hold(k)) == 0 {
-                return Some(k);
-            }
-        }
-        None
+    pub fn empty_hold(&self) -> Option<usize> {
+        self.holds.iter().position(|cell| *cell == 0)
     }
 
-    // The number of the first rule that forbids the call.
-    fn cause(&self, call: Call, room: u16) -> Option<u8> {
-        let cell = self.content(Place::Root(call.root));
-        match call.name {
-            Name::Size if call.n == 0 || call.n > 1024 => Some(1),
-            Name::Size if self.n != 0 => Some(6),
-            Name::Size if call.n > room => Some(7),
-            Name::Size => None,
-            _ if call.root > 15 || call.other > 15 => Some(2),
-            _ if call.slot > 3 => Some(3),
-            _ if self.n == 0 => Some(5),
-            Name::New if self.next_free().is_none() => Some(8),
-            Name::Load | Name::Store | Name::Hold if cell == 0 => Some(9),
-            Name::Hold if self.empty_hold().is_none() => Some(10),
-            Name::Release if self.content(Place::Hold(call.other)) != call.n => Some(11),
-            _ => None,
+    // The first rules that forbid a call with these roots and this slot.
+    fn check(&self, roots: &[u8], f: u8) -> Result<(), Refusal> {
+        if roots.iter().any(|r| *r > 15) {
+            Err(Refusal::Root)
+        } else if f > 3 {
+            Err(Refusal::Slot)
+        } else if self.n == 0 {
+            Err(Refusal::Unsized)
+        } else {
+            Ok(())
+        }
+    }
+
+    // The cell in a root that must not be empty.
+    fn cell_in(&self, r: u8) -> Result<u16, Refusal> {
+        match self.content(Place::Root(r)) {
+            0 => Err(Refusal::Empty),
+            cell => Ok(cell),
         }
     }
 
     fn tell(&mut self) {
         self.told = self.told.saturating_add(1);
+    }
+
+    fn set(&mut self, place: Place, new: u16) {
+        match place {
+            Place::Root(r) => set_item(&mut self.roots, usize::from(r), new),
+            Place::Hold(k) => set_item(&mut self.holds, k, new),
+            Place::Slot(c, f) => {
+                if let Some(cell) = self.cells.get_mut(usize::from(c)) {
+                    set_item(&mut cell.slots, usize::from(f), new);
+                }
+            }
+        }
     }
 
     // A cell that is given up for another content becomes a suspect. The ledger is told what changed in a slot.
@@ -181,57 +159,90 @@ impl Model {
         if old == new {
             return;
         }
-        match place {
-            Place::Root(r) => set_item(&mut self.roots, usize::from(r), new),
-            Place::Hold(k) => set_item(&mut self.holds, usize::from(k), new),
-            Place::Slot(c, f) => {
-                set_item(&mut self.slots, slot_number(c, f), new);
-                self.tell();
-            }
+        self.set(place, new);
+        if let Place::Slot(_, _) = place {
+            self.tell();
         }
-        set_flag(&mut self.suspects, old);
+        if let Some(cell) = self.cells.get_mut(usize::from(old)) {
+            cell.is_suspect = true;
+        }
     }
 
-    fn give(&mut self, r: u8) -> Answer {
-        let Some(c) = self.next_free() else {
-            return Answer::Lost;
-        };
-        set_flag(&mut self.used, c);
+    fn size(&mut self, n: u16, room: u16) -> Result<(), Refusal> {
+        if n == 0 || n > 1024 {
+            return Err(Refusal::Cells);
+        }
+        if self.n != 0 {
+            return Err(Refusal::Sized);
+        }
+        if n > room {
+            return Err(Refusal::Ledger);
+        }
+        self.n = n;
+        self.tell();
+        Ok(())
+    }
+
+    fn give(&mut self, r: u8) -> Result<u16, Refusal> {
+        self.check(&[r], 0)?;
+        let c = self.next_free().ok_or(Refusal::Full)?;
+        if let Some(cell) = self.cells.get_mut(usize::from(c)) {
+            cell.is_used = true;
+        }
         self.last = c;
         self.put(Place::Root(r), c);
-        Answer::Given(c)
+        Ok(c)
     }
 
-    fn hold(&mut self, cell: u16) -> Answer {
-        let Some(k) = self.empty_hold() else {
-            return Answer::Lost;
-        };
+    fn load(&mut self, r: u8, s: u8, f: u8) -> Result<(), Refusal> {
+        self.check(&[r, s], f)?;
+        let cell = self.cell_in(s)?;
+        self.put(Place::Root(r), self.content(Place::Slot(cell, f)));
+        Ok(())
+    }
+
+    fn store(&mut self, r: u8, f: u8, s: u8) -> Result<(), Refusal> {
+        self.check(&[r, s], f)?;
+        let cell = self.cell_in(r)?;
+        self.put(Place::Slot(cell, f), self.content(Place::Root(s)));
+        Ok(())
+    }
+
+    fn hold(&mut self, r: u8) -> Result<(), Refusal> {
+        self.check(&[r], 0)?;
+        let cell = self.cell_in(r)?;
+        let k = self.empty_hold().ok_or(Refusal::Holds)?;
         self.put(Place::Hold(k), cell);
-        Answer::Done
+        Ok(())
+    }
+
+    fn release(&mut self, hold: usize, cell: u16) -> Result<(), Refusal> {
+        self.check(&[], 0)?;
+        if self.content(Place::Hold(hold)) != cell {
+            return Err(Refusal::Token);
+        }
+        self.put(Place::Hold(hold), 0);
+        Ok(())
     }
 
     /// Plays a call, for a ledger with room for `room` cells.
     pub fn call(&mut self, call: Call, room: u16) -> Answer {
-        if let Some(number) = self.cause(call, room) {
-            return Answer::Refused(number);
-        }
-        let root = Place::Root(call.root);
-        let other = Place::Root(call.other);
-        let cell = self.content(root);
-        let slot = Place::Slot(cell, call.slot);
-        match call.name {
-            Name::Size => {
-                self.n = call.n;
-                self.tell();
+        match call {
+            Call::Size { n } => self.size(n, room)?,
+            Call::New { r } => return Ok(Some(self.give(r)?)),
+            Call::Clear { r } => {
+                self.check(&[r], 0)?;
+                self.put(Place::Root(r), 0);
             }
-            Name::New => return self.give(call.root),
-            Name::Clear => self.put(root, 0),
-            Name::Copy => self.put(root, self.content(other)),
-            Name::Load => self.put(other, self.content(slot)),
-            Name::Store => self.put(slot, self.content(other)),
-            Name::Hold => return self.hold(cell),
-            Name::Release => self.put(Place::Hold(call.other), 0),
+            Call::Copy { r, s } => {
+                self.check(&[r, s], 0)?;
+                self.put(Place::Root(r), self.content(Place::Root(s)));
+            }
+            Call::Load { r, s, f } => self.load(r, s, f)?,
+            Call::Store { r, f, s } => self.store(r, f, s)?,
+            Call::Hold { r } => self.hold(r)?,
+            Call::Release { hold, cell, .. } => self.release(hold, cell)?,
         }
-        Answer::Done
+        Ok(None)
     }
 }

@@ -1,13 +1,11 @@
 //! Twelve stacks of layers over the three kinds of count.
-ghost use Rattle.std.specs.Prelude.{◌≡◌, []};
-
 use super::course::{Course, Fault};
 use super::trial::play;
 use coalescing::Log;
-use counts::{Count, Exact, ExactRow, Sticky, StickyRow, Tally, TallyRow};
+use counts::{Exact, Sticky, Tally};
 use ledgers::{Bottom, Ledger};
 use queue::Queue;
-use trial_tools::{Kind, Random};
+use trial_tools::{Kind, scramble};
 use zeros::Zeros;
 
 // How many cells the left and the right ledger have room for, and both.
@@ -19,9 +17,7 @@ const ROWS: usize = MANY + FEW;
 
 /// The layers to put on two ledgers, the lowest first, before they are played.
 trait Layers {
-    fn play<L: Ledger + Drop>(left: L, right: L, course: &mut Course) -> Result<(), Fault>
-        requires { course.old.tokens.items ≡ [] }
-        ensures { course.new.tokens.items ≡ [] };
+    fn play<L: Ledger + Drop>(left: L, right: L, course: &mut Course) -> Result<(), Fault>;
 }
 
 struct NoMore;
@@ -57,63 +53,44 @@ impl<T: Layers> Layers for AddZeros<T> {
 }
 
 // A ledger may begin in any state, so its rows hold random bytes.
-fn scramble<K: Kind>(rows: &mut [K::Row], random: &mut Random) {
-    for i in 0..rows.len() {
-        rows[i] = K::row(random.bits());
-    }
-}
-
-// Goes on to the next stack, with random numbers of its own.
-fn over<K: Kind, T: Layers>(rows: &mut [K::Row], course: &mut Course) -> Result<(), Fault>
-    requires { course.old.tokens.items ≡ [] }
-    ensures { course.new.tokens.items ≡ [] }
-{
-    course.stacks = course.stacks.saturating_add(1);
-    course.random = Random::new(u64::from(course.stacks));
+fn over<K: Kind, T: Layers>(rows: &mut [K::Row], course: &mut Course) -> Result<(), Fault> {
+    course.begin();
     scramble::<K>(rows, &mut course.random);
     let many = rows.len().min(MANY);
     let (left, right) = rows.split_at_mut(many);
     T::play(Bottom::<K>::new(left), Bottom::<K>::new(right), course)
 }
 
-pub fn every_stack(course: &mut Course) -> Result<(), Fault>
-    requires { course.old.tokens.items ≡ [] }
-    ensures { course.new.tokens.items ≡ [] }
-{
-    over_exact(course)?;
-    over_sticky(course)?;
-    over_tally(course)
+fn over_kind<K: Kind, A: Layers, B: Layers, C: Layers, D: Layers>(
+    course: &mut Course,
+) -> Result<(), Fault> {
+    let rows = &mut vec![in course.memory; K::row(0); ROWS]?;
+    over::<K, A>(rows, course)?;
+    over::<K, B>(rows, course)?;
+    over::<K, C>(rows, course)?;
+    over::<K, D>(rows, course)
 }
 
-fn over_exact(course: &mut Course) -> Result<(), Fault>
-    requires { course.old.tokens.items ≡ [] }
-    ensures { course.new.tokens.items ≡ [] }
-{
-    let rows = &mut [ExactRow { value: 0 }; ROWS];
-    over::<Exact, NoMore>(rows, course)?;
-    over::<Exact, AddQueue<NoMore>>(rows, course)?;
-    over::<Exact, AddZeros<AddLog<NoMore>>>(rows, course)?;
-    over::<Exact, AddQueue<AddLog<AddZeros<NoMore>>>>(rows, course)
-}
-
-fn over_sticky(course: &mut Course) -> Result<(), Fault>
-    requires { course.old.tokens.items ≡ [] }
-    ensures { course.new.tokens.items ≡ [] }
-{
-    let rows = &mut [StickyRow { value: 0 }; ROWS];
-    over::<Sticky, AddLog<NoMore>>(rows, course)?;
-    over::<Sticky, AddZeros<NoMore>>(rows, course)?;
-    over::<Sticky, AddLog<AddQueue<NoMore>>>(rows, course)?;
-    over::<Sticky, AddZeros<AddQueue<AddLog<NoMore>>>>(rows, course)
-}
-
-fn over_tally(course: &mut Course) -> Result<(), Fault>
-    requires { course.old.tokens.items ≡ [] }
-    ensures { course.new.tokens.items ≡ [] }
-{
-    let rows = &mut [TallyRow { ones: 0 }; ROWS];
-    over::<Tally, NoMore>(rows, course)?;
-    over::<Tally, AddQueue<AddLog<NoMore>>>(rows, course)?;
-    over::<Tally, AddQueue<AddZeros<NoMore>>>(rows, course)?;
-    over::<Tally, AddLog<AddZeros<AddQueue<NoMore>>>>(rows, course)
+pub fn every_stack(course: &mut Course) -> Result<(), Fault> {
+    over_kind::<
+        Exact,
+        NoMore,
+        AddQueue<NoMore>,
+        AddZeros<AddLog<NoMore>>,
+        AddQueue<AddLog<AddZeros<NoMore>>>,
+    >(course)?;
+    over_kind::<
+        Sticky,
+        AddLog<NoMore>,
+        AddZeros<NoMore>,
+        AddLog<AddQueue<NoMore>>,
+        AddZeros<AddQueue<AddLog<NoMore>>>,
+    >(course)?;
+    over_kind::<
+        Tally,
+        NoMore,
+        AddQueue<AddLog<NoMore>>,
+        AddQueue<AddZeros<NoMore>>,
+        AddLog<AddZeros<AddQueue<NoMore>>>,
+    >(course)
 }

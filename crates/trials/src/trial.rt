@@ -1,38 +1,19 @@
 //! Random calls on two heaps side by side, each with a ledger of its own. Either may be brought the tokens of both.
-ghost use Rattle.std.specs.Prelude.{◌≡◌, [], None, IfOk};
+ghost use Rattle.std.specs.Prelude.{◌≡◌, [], None};
 ghost use Rattle.heap.specs.Calls.{open_token, release_checks, with_hold};
 ghost use Rattle.heap.specs.Refusals.{cause_of};
 ghost use Rattle.heap.specs.States.{state};
-ghost use Rattle.trials.specs.Tokens.{Balanced, Moves, NoneOpen, times_open};
-ghost use Rattle.heap.specs.declared.token.Token.{Token};
+ghost use Rattle.trials.specs.Tokens.{Balanced, Moves, NoneOpen};
 
-use super::calls::{Call, Mix, Name};
+use super::calls::{Call, Mix};
 use super::compare::{heap_agrees, heap_answers, ledger_agrees, ledger_answers};
-use super::course::{Course, Fault, Kept};
+use super::course::{Course, Fault};
+use super::kept::Kept;
 use super::model::{Answer, Model};
-use heap::{Heap, Refusal, Token, Unreleased};
+use heap::{Heap, Token, Unreleased};
 use ledgers::Ledger;
 
 const ROUNDS: u32 = 256;
-
-/// A heap with its ledger, and the model that it is compared with.
-#[derive(Drop)]
-struct Side<L> {
-    ledger: L,
-    heap: Heap,
-    model: Model,
-}
-
-fn refused(cause: Refusal) -> Answer {
-    Answer::Refused(cause.number())
-}
-
-fn new_model(course: &Course) -> Result<Model, Fault> {
-    match Model::new(course.memory) {
-        Ok(model) => Ok(model),
-        Err(_) => Err(Fault::Memory),
-    }
-}
 
 // Takes an open token back.
 fn take_back<L: Ledger>(heap: &mut Heap, ledger: &L, token: Token)
@@ -45,122 +26,122 @@ fn take_back<L: Ledger>(heap: &mut Heap, ledger: &L, token: Token)
     }
 }
 
-// Takes back the tokens that are left after a difference.
-fn give_back<L: Ledger>(left: &mut Side<L>, right: &mut Side<L>, tokens: &mut Vec<Kept>)
-    requires { Balanced tokens.old.items (state left.old.heap) (state right.old.heap) }
-    ensures kept { tokens.new.items ≡ [] }
-    ensures left { NoneOpen (state left.new.heap) }
-    ensures right { NoneOpen (state right.new.heap) }
-{
-    while let Some(
-        Kept {
-            token,
-            hold: _,
-            cell: _,
-        },
-    ) = tokens.pop()
-    {
-        if left.heap.is_open(&token) {
-            take_back(&mut left.heap, &left.ledger, token);
-        } else {
-            take_back(&mut right.heap, &right.ledger, token);
-        }
-    }
-}
-
 /// Plays rounds, each with two new heaps.
-pub fn play<L: Ledger + Drop>(left: L, right: L, course: &mut Course) -> Result<(), Fault>
-    requires { course.old.tokens.items ≡ [] }
-    ensures { course.new.tokens.items ≡ [] }
-{
-    let mut left = Side::new(left, course)?;
-    let mut right = Side::new(right, course)?;
+pub fn play<L: Ledger + Drop>(left: L, right: L, course: &mut Course) -> Result<(), Fault> {
+    let left = Side::new(left, course)?;
+    let right = Side::new(right, course)?;
+    let mut pair = Pair { left, right };
     for round in 1..=ROUNDS {
         course.round = round;
         course.step = 0;
-        play_round(&mut left, &mut right, course)?;
+        pair.play_round(course)?;
     }
     Ok(())
 }
 
-// However the round ends, each token is back after it.
-fn play_round<L: Ledger>(
-    left: &mut Side<L>,
-    right: &mut Side<L>,
-    course: &mut Course,
-) -> Result<(), Fault>
-    requires kept { course.old.tokens.items ≡ [] }
-    requires left { NoneOpen (state left.old.heap) }
-    requires right { NoneOpen (state right.old.heap) }
-    ensures kept { course.new.tokens.items ≡ [] }
-    ensures left { NoneOpen (state left.new.heap) }
-    ensures right { NoneOpen (state right.new.heap) }
-{
-    let outcome = play_calls(left, right, course);
-    give_back(left, right, &mut course.tokens);
-    outcome
+/// Two heaps side by side.
+#[derive(Drop)]
+struct Pair<L> {
+    left: Side<L>,
+    right: Side<L>,
 }
 
-fn play_calls<L: Ledger>(
-    left: &mut Side<L>,
-    right: &mut Side<L>,
-    course: &mut Course,
-) -> Result<(), Fault>
-    requires kept { course.old.tokens.items ≡ [] }
-    requires left { NoneOpen (state left.old.heap) }
-    requires right { NoneOpen (state right.old.heap) }
-    ensures { Balanced course.new.tokens.items (state left.new.heap) (state right.new.heap) }
-{
-    let mix = Mix::new(&mut course.random, course.round);
-    left.begin(course)?;
-    right.begin(course)?;
-    for _ in 0..mix.calls {
-        let outcome = match course.random.below(2) {
-            0 => left.step(mix, course),
-            _ => right.step(mix, course),
-        };
-        outcome?;
+impl<L: Ledger> Pair<L> {
+    fn begin(&mut self, course: &Course) -> Result<(), Fault>
+        ensures left { NoneOpen (state self.new.left.heap) }
+        ensures right { NoneOpen (state self.new.right.heap) }
+    {
+        self.left.heap = Heap::new();
+        self.right.heap = Heap::new();
+        self.left.model = Model::new(course.memory)?;
+        self.right.model = Model::new(course.memory)?;
+        Ok(())
     }
-    // A token that the left heap doesn't take back is one of the right.
-    left.end(course)?;
-    right.end(course)?;
-    let is_none_left = course.tokens.is_empty();
-    course.expect(Fault::Tokens, 1, is_none_left)
+
+    // However the round ends, each token is back after it.
+    fn play_round(&mut self, course: &mut Course) -> Result<(), Fault>
+        ensures left { NoneOpen (state self.new.left.heap) }
+        ensures right { NoneOpen (state self.new.right.heap) }
+    {
+        self.begin(course)?;
+        // Two heaps have 32 holds between them.
+        let mut tokens = Vec::with_capacity(course.memory, 33)?;
+        let outcome = self.play_calls(&mut tokens, course);
+        self.give_back(&mut tokens);
+        tokens.destroy_empty();
+        outcome
+    }
+
+    fn play_calls(&mut self, tokens: &mut Vec<Kept>, course: &mut Course) -> Result<(), Fault>
+        requires kept { tokens.old.items ≡ [] }
+        requires left { NoneOpen (state self.old.left.heap) }
+        requires right { NoneOpen (state self.old.right.heap) }
+        ensures { Balanced tokens.new.items (state self.new.left.heap) (state self.new.right.heap) }
+    {
+        let mix = Mix::new(&mut course.random, course.round);
+        for _ in 0..mix.calls {
+            match course.random.below(2) {
+                0 => self.left.step(mix, tokens, course)?,
+                _ => self.right.step(mix, tokens, course)?,
+            }
+        }
+        // A token that the left heap doesn't take back is one of the right.
+        self.left.end(tokens, course)?;
+        self.right.end(tokens, course)?;
+        course.expect(Fault::Tokens, 1, tokens.is_empty())
+    }
+
+    // Takes back the tokens that are left after a difference.
+    fn give_back(&mut self, tokens: &mut Vec<Kept>)
+        requires { Balanced tokens.old.items (state self.old.left.heap) (state self.old.right.heap) }
+        ensures kept { tokens.new.items ≡ [] }
+        ensures left { NoneOpen (state self.new.left.heap) }
+        ensures right { NoneOpen (state self.new.right.heap) }
+    {
+        while let Some(
+            Kept {
+                token,
+                hold: _,
+                cell: _,
+            },
+        ) = tokens.pop()
+        {
+            if self.left.heap.is_open(&token) {
+                take_back(&mut self.left.heap, &self.left.ledger, token);
+            } else {
+                take_back(&mut self.right.heap, &self.right.ledger, token);
+            }
+        }
+    }
+}
+
+/// A heap with its ledger, and the model that it is compared with.
+#[derive(Drop)]
+struct Side<L> {
+    ledger: L,
+    heap: Heap,
+    model: Model,
 }
 
 impl<L: Ledger> Side<L> {
     fn new(ledger: L, course: &Course) -> Result<Side<L>, Fault>
     where
         L: Drop,
-        ensures { IfOk result (λ s. NoneOpen (state s.heap)) }
     {
         Ok(Side {
             ledger,
             heap: Heap::new(),
-            model: new_model(course)?,
+            model: Model::new(course.memory)?,
         })
     }
 
-    fn begin(&mut self, course: &Course) -> Result<(), Fault>
-        ensures { NoneOpen (state self.new.heap) }
-    {
-        self.heap = Heap::new();
-        self.model = new_model(course)?;
-        Ok(())
-    }
-
     // Compares a small heap after every call, a big one less often, and the ledgers now and then.
-    fn step(&mut self, mix: Mix, course: &mut Course) -> Result<(), Fault>
-        ensures { Moves course.old.tokens.items (state self.old.heap) course.new.tokens.items (state self.new.heap) }
+    fn step(&mut self, mix: Mix, tokens: &mut Vec<Kept>, course: &mut Course) -> Result<(), Fault>
+        ensures { Moves tokens.old.items (state self.old.heap) tokens.new.items (state self.new.heap) }
     {
         let room = self.ledger.capacity();
-        let call = mix.call(
-            &mut course.random,
-            &self.model,
-            room,
-            course.tokens.as_slice(),
-        );
-        self.play(call, course)?;
+        let call = mix.call(&mut course.random, &self.model, room, tokens.as_slice());
+        self.play(call, tokens, course)?;
         let (heap_pace, ledger_pace) = if self.model.n <= 40 {
             (1, 48)
         } else {
@@ -172,8 +153,7 @@ impl<L: Ledger> Side<L> {
 
     // Before it is sized, a heap has nothing to do with its ledger.
     fn look(&mut self, at_heap: bool, at_ledger: bool, course: &mut Course) -> Result<(), Fault>
-        ensures heap { self.new.heap ≡ self.old.heap }
-        ensures tokens { course.new.tokens ≡ course.old.tokens }
+        ensures { self.new.heap ≡ self.old.heap }
     {
         let n = self.model.n;
         if at_heap {
@@ -190,91 +170,76 @@ impl<L: Ledger> Side<L> {
     }
 
     // Offers a heap every token that is left. One that is refused goes to the end, behind those still to come.
-    fn end(&mut self, course: &mut Course) -> Result<(), Fault>
-        ensures { Moves course.old.tokens.items (state self.old.heap) course.new.tokens.items (state self.new.heap) }
+    fn end(&mut self, tokens: &mut Vec<Kept>, course: &mut Course) -> Result<(), Fault>
+        ensures { Moves tokens.old.items (state self.old.heap) tokens.new.items (state self.new.heap) }
     {
-        for place in (0..course.tokens.len().min(32) as u16).rev() {
-            let call = Call::release(course.tokens.as_slice(), place);
-            self.play(call, course)?;
+        for place in (0..tokens.len().min(32)).rev() {
+            if let Some(call) = Call::release(tokens.as_slice(), place) {
+                self.play(call, tokens, course)?;
+            }
         }
         self.look(true, true, course)
     }
 
     // A call that leaves the slots alone leaves alone what waits in the ledger.
-    fn play(&mut self, call: Call, course: &mut Course) -> Result<(), Fault>
-        ensures { Moves course.old.tokens.items (state self.old.heap) course.new.tokens.items (state self.new.heap) }
+    fn play(&mut self, call: Call, tokens: &mut Vec<Kept>, course: &mut Course) -> Result<(), Fault>
+        ensures { Moves tokens.old.items (state self.old.heap) tokens.new.items (state self.new.heap) }
     {
         let waiting = self.ledger.waiting();
         let told = self.model.told;
-        let heard = self.ask(call, &mut course.tokens);
+        let heard = self.ask(call, tokens)?;
         let expected = self.model.call(call, self.ledger.capacity());
         course.expect_answer(heard, expected)?;
         let waits = self.model.told != told || self.ledger.waiting() == waiting;
         course.expect(Fault::Waiting, 1, waits)
     }
 
-    fn ask(&mut self, call: Call, tokens: &mut Vec<Kept>) -> Answer
+    fn ask(&mut self, call: Call, tokens: &mut Vec<Kept>) -> Result<Answer, Fault>
         ensures { Moves tokens.old.items (state self.old.heap) tokens.new.items (state self.new.heap) }
     {
-        let result = match call.name {
-            Name::Size => self.heap.size(&mut self.ledger, call.n),
-            Name::New => return self.new_cell(call.root),
-            Name::Clear => self.heap.clear(&self.ledger, call.root),
-            Name::Copy => self.heap.copy(&self.ledger, call.root, call.other),
-            Name::Load => self
-                .heap
-                .load(&self.ledger, call.other, call.root, call.slot),
-            Name::Store => self
-                .heap
-                .store(&mut self.ledger, call.root, call.slot, call.other),
-            Name::Hold => return self.hold(call.root, tokens),
-            Name::Release => return self.release(call.place, tokens),
+        let done = match call {
+            Call::New { r } => return Ok(self.heap.new_cell(&self.ledger, r).map(Some)),
+            Call::Hold { r } => return self.hold(r, tokens),
+            Call::Release { place, .. } => return self.release(place, tokens),
+            Call::Size { n } => self.heap.size(&mut self.ledger, n),
+            Call::Clear { r } => self.heap.clear(&self.ledger, r),
+            Call::Copy { r, s } => self.heap.copy(&self.ledger, r, s),
+            Call::Load { r, s, f } => self.heap.load(&self.ledger, r, s, f),
+            Call::Store { r, f, s } => self.heap.store(&mut self.ledger, r, f, s),
         };
-        match result {
-            Ok(()) => Answer::Done,
-            Err(cause) => refused(cause),
-        }
-    }
-
-    fn new_cell(&mut self, r: u8) -> Answer
-        ensures { (t : Token) → times_open t (state self.new.heap) ≡ times_open t (state self.old.heap) }
-    {
-        match self.heap.new_cell(&self.ledger, r) {
-            Ok(c) => Answer::Given(c),
-            Err(cause) => refused(cause),
-        }
+        Ok(done.map(|()| None))
     }
 
     // The token is kept with what the model is about to hold.
-    fn hold(&mut self, r: u8, tokens: &mut Vec<Kept>) -> Answer
+    fn hold(&mut self, r: u8, tokens: &mut Vec<Kept>) -> Result<Answer, Fault>
         ensures { Moves tokens.old.items (state self.old.heap) tokens.new.items (state self.new.heap) }
     {
         if tokens.len() >= tokens.capacity() {
-            return Answer::Lost;
+            return Err(Fault::Tokens);
         }
         let hold = self.model.empty_hold().unwrap_or(0);
         let cell = self.model.root(r).unwrap_or(0);
         match self.heap.hold(&self.ledger, r) {
             Ok(token) => {
                 tokens.push_reserved(Kept { token, hold, cell });
-                Answer::Done
+                Ok(Ok(None))
             }
-            Err(cause) => refused(cause),
+            Err(cause) => Ok(Err(cause)),
         }
     }
 
-    fn release(&mut self, place: u16, tokens: &mut Vec<Kept>) -> Answer
+    fn release(&mut self, place: usize, tokens: &mut Vec<Kept>) -> Result<Answer, Fault>
         ensures { Moves tokens.old.items (state self.old.heap) tokens.new.items (state self.new.heap) }
     {
-        if usize::from(place) >= tokens.len() {
-            return Answer::Lost;
+        if place >= tokens.len() {
+            return Err(Fault::Tokens);
         }
-        let Kept { token, hold, cell } = tokens.swap_remove(usize::from(place));
+        let Kept { token, hold, cell } = tokens.swap_remove(place);
         match self.heap.release(&self.ledger, token) {
-            Ok(()) => Answer::Done,
+            Ok(()) => Ok(Ok(None)),
             Err(Unreleased { cause, token }) => {
                 tokens.push_reserved(Kept { token, hold, cell });
-                refused(cause)
+                Ok(Err(cause))
             }
         }
     }

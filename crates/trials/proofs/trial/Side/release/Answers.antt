@@ -9,7 +9,7 @@ pub returns-in-Ok : goal.returns-in-Ok
 returns-in-Ok g c t =
     let k = c.swap_remove-hold.result in
     let ks = c.args.tokens.now.items in
-    let i = c.from-2.result in
+    let i = c.args.place in
     let within : i < length ks = omega arith in
     let s = state c.args.self.now.heap in
     let taken = ap (kept_like t) c.swap_remove-hold.ensures.items in
@@ -21,7 +21,7 @@ pub returns-in-Err : goal.returns-in-Err
 returns-in-Err g c t =
     let k = c.swap_remove-hold.result in
     let ks = c.args.tokens.now.items in
-    let i = c.from-2.result in
+    let i = c.args.place in
     let within : i < length ks = omega arith in
     let taken = ap (kept_like t) c.swap_remove-hold.ensures.items in
     let all = kept_taken t ks i k within c.swap_remove-hold.ensures.value in

@@ -1,7 +1,7 @@
 use Rattle.std.proofs.Common.{sym, ◌∙◌, arith}
 use Rattle.heap.specs.States.{state}
 use Rattle.trials.proofs.Tokens.{kept_none, kept_popped, may_release, open_in_other, release_shuts}
-use Rattle.trials.proofs.trial.give_back.Goals as goal
+use Rattle.trials.proofs.trial.Pair.give_back.Goals as goal
 
 pub loop-token-preserved-then-is_open : goal.loop-token-preserved-then-is_open
 loop-token-preserved-then-is_open g c t =
@@ -9,7 +9,7 @@ loop-token-preserved-then-is_open g c t =
     let k = c.in-Some.field-0 in
     let popped = kept_popped t at.tokens.items c.pop.new.self.items k c.in-Some.ensures.items in
     let is_open = sym c.is_open.ensures ∙ c.if-is_open.true in
-    let shuts = release_shuts t k.token (state at.left.heap) (state c.take_back.new.heap) c.take_back.ensures is_open in
+    let shuts = release_shuts t k.token (state at.self.left.heap) (state c.take_back.new.heap) c.take_back.ensures is_open in
     let before = at.invariant t in
     omega (arith, before, popped, shuts)
 
@@ -18,8 +18,8 @@ take_back-requires-else-is_open g c =
     let at = c.loop-token in
     let k = c.in-Some.field-0 in
     let is_shut = sym c.is_open.ensures ∙ c.if-is_open.false in
-    let is_open = open_in_other at.tokens.items c.pop.new.self.items k (state at.left.heap) (state at.right.heap) at.invariant c.in-Some.ensures.items is_shut in
-    may_release at.right.heap k.token is_open
+    let is_open = open_in_other at.tokens.items c.pop.new.self.items k (state at.self.left.heap) (state at.self.right.heap) at.invariant c.in-Some.ensures.items is_shut in
+    may_release at.self.right.heap k.token is_open
 
 pub loop-token-preserved : goal.loop-token-preserved
 loop-token-preserved g c t =
@@ -27,8 +27,8 @@ loop-token-preserved g c t =
     let k = c.in-Some.field-0 in
     let popped = kept_popped t at.tokens.items c.pop.new.self.items k c.in-Some.ensures.items in
     let is_shut = sym c.is_open.ensures ∙ c.if-is_open.false in
-    let is_open = open_in_other at.tokens.items c.pop.new.self.items k (state at.left.heap) (state at.right.heap) at.invariant c.in-Some.ensures.items is_shut in
-    let shuts = release_shuts t k.token (state at.right.heap) (state c.take_back-else-is_open.new.heap) c.take_back-else-is_open.ensures is_open in
+    let is_open = open_in_other at.tokens.items c.pop.new.self.items k (state at.self.left.heap) (state at.self.right.heap) at.invariant c.in-Some.ensures.items is_shut in
+    let shuts = release_shuts t k.token (state at.self.right.heap) (state c.take_back-else-is_open.new.heap) c.take_back-else-is_open.ensures is_open in
     let before = at.invariant t in
     omega (arith, before, popped, shuts)
 

@@ -1,0 +1,10 @@
+//! Rows of counts as a ledger may find them.
+use super::kinds::Kind;
+use super::random::Random;
+
+/// Fills rows with random bytes: a ledger may begin in any state.
+pub fn scramble<K: Kind>(rows: &mut [K::Row], random: &mut Random) {
+    for row in rows.iter_mut() {
+        *row = K::row(random.bits());
+    }
+}
