@@ -1,7 +1,7 @@
 -- A note that the log takes.
 use Rattle.std.proofs.Common.{◌≡◌, ℕ, sym, refl, ap, ◌∙◌, subst}
 use Rattle.coalescing.proofs.Sparse.{renewed_entries, renewed_formed}
-use Rattle.coalescing.specs.Logs.{entry_of, entries, Unlogged, WellFormed, Logged, renewed, Takes, Added, again, other, LogNotes}
+use Rattle.coalescing.specs.Logs.{entries, WellFormed, Logged, renewed, Takes, again, LogNotes}
 use Rattle.coalescing.specs.declared.log.Entries.{Entries}
 use Rattle.coalescing.specs.declared.log.Log.{Log}
 use Rattle.ledgers.specs.Meaning.{Ops}
@@ -10,12 +10,5 @@ module _ {L : Type 0} (o : Ops L) (s old new : ℕ) (g : Log L) (takes : Takes (
   pub notes_again : (k : ℕ) (e : Entries) → Logged k s (entries g.inner) → e ≡ renewed k new g.inner → LogNotes o s old new g (record { below = g.below; inner = e })
   notes_again k e at is = record {
     taken = λ _ formed. (again k at (ap entries is ∙ renewed_entries g.inner k new at.0) refl, subst WellFormed (sym is) (renewed_formed g.inner k new at.0 formed));
-    outside = λ out. absurd (out takes);
-  }
-
-  pub notes_other : (g' : Log L) → (WellFormed g.inner → Unlogged s (entries g.inner)) → Added o (entry_of s old new) g g'
-      → (WellFormed g.inner → Unlogged s (entries g.inner) → WellFormed g'.inner) → LogNotes o s old new g g'
-  notes_other g' free added kept = record {
-    taken = λ _ formed. (other (free formed) added, kept formed (free formed));
     outside = λ out. absurd (out takes);
   }

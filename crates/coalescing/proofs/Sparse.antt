@@ -1,7 +1,7 @@
 -- The sparse set of entries: what a search, a changed entry and a new one do to it.
 use Rattle.std.proofs.Common.{◌≡◌, ℕ, zero, suc, ◌+◌, ◌<◌, ◌≤◌, min, ◌≢◌, List, [], ◌∷◌, ◌++◌, length, get_or, take, set, sym, refl, ap, ◌∙◌, subst, ⊎_elim, arith}
 use Rattle.coalescing.specs.LogLaws.{well_formed}
-use Rattle.coalescing.specs.Logs.{entry_of, no_entry, size, entries, Unlogged, WellFormed, Logged, with_latest, renewed}
+use Rattle.coalescing.specs.Logs.{entry_of, no_entry, size, entries, Unlogged, WellFormed, with_latest, renewed}
 use Rattle.coalescing.specs.declared.log.Entries.{Entries}
 use Rattle.coalescing.specs.declared.log.Entry.{Entry}
 use Rattle.std.proofs.ByRecursion.{All-get_or, All-from_get_or}
@@ -13,9 +13,6 @@ entries_length e long = length-take (size e) e.at ∙ omega arith
 
 pub entries_few : (e : Entries) (k : ℕ) → k < length (entries e) → k < size e
 entries_few e k lt = omega (arith, length-take (size e) e.at)
-
-pub search_finds : (e : Entries) (k s : ℕ) → length e.at ≡ 64 → k < size e → (get_or e.at k no_entry).slot ≡ s → Logged k s (entries e)
-search_finds e k s long lt is = (omega (arith, entries_length e long), ap (λ (x : Entry). x.slot) (get_or-take (size e) e.at k no_entry lt) ∙ is)
 
 pub search_fails : (e : Entries) (s : ℕ) → (get_or e.index s 0 < size e → (get_or e.at (get_or e.index s 0) no_entry).slot ≡ s → ⊥) → WellFormed e → Unlogged s (entries e)
 search_fails e s fails formed =

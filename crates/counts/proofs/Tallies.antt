@@ -1,10 +1,9 @@
 -- What holds of every tally. A rule is an equation between two functions of the byte, and antt computes both at all nine tallies.
 -- Assumes nothing.
-use Rattle.std.proofs.Common.{◌≡◌, ℕ, ◌+◌, ◌-◌, ◌*◌, ◌/◌, ◌%◌, ◌^◌, ◌<◌, ◌≤◌, cond, eqb, not, List, map, get_or, Some, sym, refl, ap, ◌∙◌, subst, arith, ne_eqb}
+use Rattle.std.proofs.Common.{◌≡◌, ℕ, ◌+◌, ◌-◌, ◌*◌, ◌/◌, ◌%◌, ◌^◌, ◌<◌, ◌≤◌, cond, eqb, List, map, get_or, sym, refl, ap, ◌∙◌, subst, arith, ne_eqb}
 use lib.Bits.{bit_or}
 use lib.Count.{ones, ones-le}
 use Rattle.std.proofs.lemmas.List.FromFn.{get_or-map-range_with_len}
-use Rattle.std.specs.Bool.{then_some}
 use Rattle.std.specs.List.{range_with_len}
 use Rattle.counts.specs.Counting.{raised, lowered, set_to}
 use Rattle.counts.specs.Tallied.{LowOnes, tally}
@@ -53,18 +52,6 @@ module _ (byte : ℕ) (fits : byte < 256) (low : LowOnes byte) where
   pub shorter_tells : (byte ≡ 255 → ⊥) → tally (byte / 2) ≡ lowered (tally byte)
   unfolding ones
   shorter_tells ne = ap tally (sym (shorter_is byte ne)) ∙ at_tally (λ b. tally (shorter b)) (λ b. lowered (tally b)) refl byte fits low
-
-  pub told : then_some (not (eqb byte 255)) (ones byte) ≡ tally byte
-  unfolding ones
-  told = at_tally (λ b. then_some (not (eqb b 255)) (ones b)) tally refl byte fits low
-
-pub none_low : LowOnes 0
-unfolding ones
-none_low = refl
-
-pub none_tells : tally 0 ≡ Some 0
-unfolding ones
-none_tells = refl
 
 pub eight_low : LowOnes 255
 unfolding ones

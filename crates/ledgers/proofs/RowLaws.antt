@@ -1,7 +1,7 @@
 -- What a write to one row does to what the rows tell. Assumes nothing.
-use Rattle.std.proofs.Common.{◌≡◌, ℕ, suc, ◌+◌, ◌<◌, ◌≤◌, ◌⊎◌, List, [], ◌∷◌, ◌++◌, map, length, get_or, take, drop, set, replicate, Some, None, Option, sym, ap, ◌∙◌, ⊎_elim, arith}
+use Rattle.std.proofs.Common.{◌≡◌, ℕ, suc, ◌+◌, ◌<◌, ◌≤◌, List, [], ◌∷◌, ◌++◌, map, length, get_or, take, drop, set, replicate, Some, None, Option, sym, ap, ◌∙◌, arith}
 use Rattle.ledgers.specs.Bottoms.{Counts, counts_of}
-use Rattle.std.proofs.lemmas.List.{append_assoc, drop_more, get_or-map, get_or_past, append-nil, drop-map, drop_all, length-map, length-replicate, length-take-le, map-append, map-set, replicate_more, set_at, set_past}
+use Rattle.std.proofs.lemmas.List.{append_assoc, drop_more, get_or-map, append-nil, drop-map, drop_all, length-map, length-replicate, length-take-le, map-append, map-set, replicate_more, set_at}
 
 module _ {R : Type 0} (reads : R → Option ℕ) (rows : List R) where
   -- a row as the counts have it
@@ -12,21 +12,6 @@ module _ {R : Type 0} (reads : R → Option ℕ) (rows : List R) where
   row_written c i row x e is =
       ap (λ (v : Counts). None ∷ v) (map-set reads rows i row ∙ ap (set (map reads rows) i) is)
       ∙ ap (λ (k : ℕ). set (counts_of reads rows) k x) (sym e)
-
-  -- a number that is no cell there reads as nothing, and a write to it is none
-  pub no_row_read : (c : ℕ) → (c ≡ 0) ⊎ (length rows < c) → get_or (counts_of reads rows) c None ≡ None
-  no_row_read c out =
-      ⊎_elim
-      (λ (e : c ≡ 0). ap (λ (k : ℕ). get_or (counts_of reads rows) k None) e)
-      (λ (past : length rows < c). get_or_past (counts_of reads rows) c None (omega (arith, length-map rows reads)))
-      out
-
-  pub no_row_written : (c : ℕ) (x : Option ℕ) → (c ≡ 0 → x ≡ None) → (c ≡ 0) ⊎ (length rows < c) → counts_of reads rows ≡ set (counts_of reads rows) c x
-  no_row_written c x none out =
-      ⊎_elim
-      (λ (e : c ≡ 0). sym ((λ i. set (counts_of reads rows) (e i) (none e i))))
-      (λ (past : length rows < c). sym (set_past (counts_of reads rows) c x (omega (arith, length-map rows reads))))
-      out
 
 -- one row more is new
 pub renew_more : {R : Type 0} (reads : R → Option ℕ) (start rows : List R) (i : ℕ) (row : R) → i < length start → reads row ≡ Some 0
