@@ -18,6 +18,7 @@ pub struct Entry {
 
 /// A sparse set: the entries are `at[..len]`, and `index[slot]` counts only where the entry there names that slot.
 /// So the log is emptied by its length alone, and whatever the index then contains does no harm.
+/// No `Vec` and no map: a layer has a fixed table, and takes no memory.
 #[derive(Drop)]
 pub struct Entries {
     at: [Entry; ROOM],

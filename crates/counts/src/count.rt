@@ -44,6 +44,7 @@ pub trait Count: Copy {
         ensures { result ≡ tells self };
 
     /// The count that a row reads as, made after a check.
+    // No `From`: of that a bound tells generic code `from_gives` alone, and here a count's own words say what a row means.
     fn from_row(row: Self::Row) -> Self
         ensures { tells result ≡ reads row };
 

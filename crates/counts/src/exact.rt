@@ -44,6 +44,7 @@ impl Count for Exact {
         }
     }
 
+    // `Sticky` has the same lines at another width: one kind for both would need a trait of widths, which is longer than these.
     fn down(self) -> Exact {
         if self.value == STUCK {
             return self;

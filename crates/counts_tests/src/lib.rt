@@ -45,7 +45,7 @@ mod tests {
     fn every_byte_as_a_sticky_row(rt: HostRuntime) {
         for value in 0..=u8::MAX {
             let count: Sticky = <Sticky as Count>::from_row(StickyRow { value });
-            let told = if value <= 2 { Some(value as u16) } else { None };
+            let told = (value <= 2).then_some(u16::from(value));
             assert_eq!(rt; count.number(), told);
             assert_eq!(rt; count.to_row().value, value.min(3));
         }
@@ -53,16 +53,19 @@ mod tests {
 
     #[test]
     fn every_byte_as_a_tally_row(rt: HostRuntime) {
-        let tallies = [
-            0b0, 0b1, 0b11, 0b111, 0b1111, 0b1_1111, 0b11_1111, 0b111_1111,
+        let tallies: [(u8, u16); 8] = [
+            (0b0, 0),
+            (0b1, 1),
+            (0b11, 2),
+            (0b111, 3),
+            (0b1111, 4),
+            (0b1_1111, 5),
+            (0b11_1111, 6),
+            (0b111_1111, 7),
         ];
         for ones in 0..=u8::MAX {
-            let mut told = None;
-            for (number, tally) in tallies.iter().enumerate() {
-                if *tally == ones {
-                    told = Some(number as u16);
-                }
-            }
+            let is = tallies.iter().find(|(tally, _)| *tally == ones);
+            let told = is.map(|(_, number)| *number);
             let count: Tally = <Tally as Count>::from_row(TallyRow { ones });
             assert_eq!(rt; count.number(), told);
             assert_eq!(rt;

@@ -91,6 +91,7 @@ impl<L: Ledger> Ledger for Queue<L> {
         self.below.settle();
     }
 
+    // The log hands these on by the same lines: one layer for both would need a trait whose words are those of each again.
     fn number(&self, c: u16) -> Option<u16> {
         if self.waiting() != 0 {
             return None;

@@ -8,7 +8,7 @@ pub struct Note {
     pub new: u16,
 }
 
-/// The notes that wait, the oldest first, in the first `len` places.
+/// The notes that wait, the oldest first, in the first `len` places. No `Vec`: a layer has a fixed table, and takes no memory.
 #[derive(Drop)]
 pub struct Notes {
     pub(crate) at: [Note; 64],

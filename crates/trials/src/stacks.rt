@@ -20,6 +20,7 @@ trait Layers {
     fn play<L: Ledger + Drop>(left: L, right: L, course: &mut Course) -> Result<(), Fault>;
 }
 
+// A type for each layer, since a stack is a type: the trait says once what is done with them.
 struct NoMore;
 
 struct AddQueue<T>(T);
