@@ -7,7 +7,7 @@ use std::fmt;
 /// The causes, in the order in which a call tests for them. A refused call changes nothing.
 #[derive(Clone, Copy, Debug, PartialEq, Eq)]
 pub enum Refusal {
-    Cells,
+    Cells = 1,
     Root,
     Slot,
     Memory,
@@ -25,25 +25,15 @@ impl Refusal {
     pub fn number(self) -> u8
         ensures { result ≡ number self }
     {
-        match self {
-            Refusal::Cells => 1,
-            Refusal::Root => 2,
-            Refusal::Slot => 3,
-            Refusal::Memory => 4,
-            Refusal::Unsized => 5,
-            Refusal::Sized => 6,
-            Refusal::Ledger => 7,
-            Refusal::Full => 8,
-            Refusal::Empty => 9,
-            Refusal::Holds => 10,
-            Refusal::Token => 11,
-        }
+        self as u8
     }
+}
 
-    fn words(self) -> &'static str
-        ensures { result.now ≡ words self }
-    {
-        match self {
+impl fmt::Display for Refusal {
+    ghost output = { λ x. Some (words x) };
+
+    fn fmt<W: fmt::Write>(&self, f: &mut fmt::Formatter<W>) -> fmt::Result {
+        f.write_str(match self {
             Refusal::Cells => "a heap has 1 to 1024 cells",
             Refusal::Root => "a root number is above 15",
             Refusal::Slot => "a slot is above 3",
@@ -56,14 +46,6 @@ impl Refusal {
             Refusal::Empty => "the root is empty",
             Refusal::Holds => "sixteen holds are open",
             Refusal::Token => "the token is not open here",
-        }
-    }
-}
-
-impl fmt::Display for Refusal {
-    ghost output = { λ x. Some (words x) };
-
-    fn fmt<W: fmt::Write>(&self, f: &mut fmt::Formatter<W>) -> fmt::Result {
-        f.write_str(self.words())
+        })
     }
 }
