@@ -1,11 +1,13 @@
 -- The bits of the cells 1 to n as a list.
-use Rattle.std.proofs.Common.{◌≡◌, ℕ, ◌+◌, ◌-◌, ◌/◌, ◌%◌, ◌^◌, ◌<◌, ◌≤◌, Bool, false, cond, eqb, List, length, get_or, set, replicate, count_by, sym, ap, ◌∙◌, ⊎_elim, arith, length-set, get_or-set_other, get_or-set_same, ext_get_or}
+use Rattle.std.proofs.Common.{◌≡◌, ℕ, ◌+◌, ◌-◌, ◌/◌, ◌%◌, ◌^◌, ◌<◌, ◌≤◌, Bool, false, eqb, List, [], ◌∷◌, map, length, get_or, set, replicate, count_by, refl, sym, ap, ◌∙◌, ⊎_elim, arith, length-set, get_or-set_other, get_or-set_same, ext_get_or}
 use native.Mathlib.Nat.{zero-div}
 use lib.ListN.{length-replicate, get_or-replicate}
 use Rattle.heap.proofs.Contents.{each_same}
 use Rattle.heap.specs.Bits.{is_set, flags, Put}
-use Rattle.std.proofs.lemmas.List.FromFn.{length-map-range_with_len, get_or-map-range_with_len, sum_by-map-range_with_len_more}
+use Rattle.std.proofs.lemmas.List.FromFn.{length-map-range_with_len, get_or-map-range_with_len}
 use Rattle.std.proofs.lemmas.Bool.{cases_eq}
+use Rattle.std.proofs.lemmas.Grind.{common_steps}
+use Rattle.std.specs.List.{range_with_len}
 
 pub length_flags : (n : ℕ) (m : List ℕ) → length (flags n m) ≡ n
 length_flags n m = length-map-range_with_len (is_set m) 1 n
@@ -41,6 +43,10 @@ flags_none n =
     let ln : i < n = omega (arith, length_flags n (replicate 128 0)) in
     flag_place n i (replicate 128 0) ln ∙ zero_bit (i + 1) ∙ sym (get_or-replicate {A = Bool} n i false false ln))
 
--- One more cell counted.
-pub count_more : (n : ℕ) (m : List ℕ) → count_by (λ b. b) (flags (n + 1) m) ≡ count_by (λ b. b) (flags n m) + cond (is_set m (n + 1)) 1 0
-count_more n m = sum_by-map-range_with_len_more (λ (b : Bool). cond b 1 0) (is_set m) 1 n (n + 1) (omega arith)
+-- The bits that are set, counted.
+counted : (f : ℕ → Bool) (xs : List ℕ) → count_by (λ b. b) (map f xs) ≡ count_by f xs
+counted f [] = refl
+counted f (x ∷ xs) = grind (arith, common_steps, counted f xs)
+
+pub count_flags : (n : ℕ) (m : List ℕ) → count_by (λ b. b) (flags n m) ≡ count_by (is_set m) (range_with_len 1 n)
+count_flags n m = counted (is_set m) (range_with_len 1 n)

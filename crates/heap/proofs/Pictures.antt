@@ -1,5 +1,7 @@
 -- How a picture grows.
-use Rattle.std.proofs.Common.{◌≡◌, ℕ, ◌+◌, ◌-◌, ◌<◌, ◌≤◌, true, false, List, [], ◌∷◌, ◌++◌, length, get_or, take, codes, decimal, sym, refl, ap, ◌∙◌, append_assoc, append-nil, add-one}
+use Rattle.std.proofs.Common.{◌≡◌, ℕ, zero, suc, ◌+◌, ◌-◌, ◌*◌, ◌<◌, ◌≤◌, true, false, List, [], ◌∷◌, ◌++◌, length, get_or, take, drop, codes, decimal, sym, refl, ap, ◌∙◌, append_assoc, append-nil, arith, get_or-take, drop-cons}
+use Rattle.heap.specs.Graph.{content}
+use Rattle.std.proofs.lemmas.Grind.{common_steps}
 use Rattle.heap.proofs.Flags.{flag_at}
 use Rattle.heap.specs.Bits.{flags, is_set}
 use Rattle.heap.specs.Pictures.{cell_row, cell_rows, mark, marks, row, slots_of}
@@ -19,12 +21,23 @@ marks_more xs i h =
     ∙ sym (ap marks (take_more xs i 0 h) ∙ marks_append (take i xs) (get_or xs i 0 ∷ []))
 
 -- The row of a cell, by its bit in the use map.
-pub free_row : (t : Tables) (c : ℕ) → 0 < c → c ≤ t.n → is_set t.used c ≡ false → [] ≡ cell_row (view t) c
-free_row t c h l e = sym (cond-false (get_or (flags t.n t.used) (c - 1) false) _ _ (flag_at t.n c t.used h l ∙ e))
+pub free_row : (t : Tables) (c : ℕ) → 0 < c → c ≤ t.n → is_set t.used.bytes c ≡ false → [] ≡ cell_row (view t) c
+free_row t c h l e = sym (cond-false (get_or (flags t.n t.used.bytes) (c - 1) false) _ _ (flag_at t.n c t.used.bytes h l ∙ e))
 
-pub used_row : (t : Tables) (c : ℕ) → 0 < c → c ≤ t.n → is_set t.used c ≡ true → decimal c ++ row (slots_of (view t).graph c) ≡ cell_row (view t) c
-used_row t c h l e = sym (cond-true (get_or (flags t.n t.used) (c - 1) false) _ _ (flag_at t.n c t.used h l ∙ e))
+pub used_row : (t : Tables) (c : ℕ) → 0 < c → c ≤ t.n → is_set t.used.bytes c ≡ true → decimal c ++ row (slots_of (view t).graph c) ≡ cell_row (view t) c
+used_row t c h l e = sym (cond-true (get_or (flags t.n t.used.bytes) (c - 1) false) _ _ (flag_at t.n c t.used.bytes h l ∙ e))
 
 -- One more cell.
-pub rows_more : (s : State) (i : ℕ) → cell_rows s i ++ cell_row s (i + 1) ≡ cell_rows s (i + 1)
-rows_more s i = rw add-one refl
+pub rows_more : (s : State) (c : ℕ) → 0 < c → cell_rows s (c - 1) ++ cell_row s c ≡ cell_rows s c
+rows_more s zero h = absurd (omega arith)
+rows_more s (suc i) h = let e : suc i - 1 ≡ i = omega arith in rw e refl
+
+-- The four slots of a cell, as a part of the slots.
+four : (xs : List ℕ) (i : ℕ) → i + 3 < length xs → take 4 (drop i xs) ≡ get_or xs i 0 ∷ get_or xs (i + 1) 0 ∷ get_or xs (i + 2) 0 ∷ get_or xs (i + 3) 0 ∷ []
+four xs i h = grind (arith, common_steps, drop-cons)
+
+pub four_slots : (t : Tables) (c i : ℕ) → i ≡ 4 * (c - 1) → 0 < c → c ≤ t.n → t.n ≤ 1024 → length t.slots ≡ 4096 → take 4 (drop i t.slots) ≡ slots_of (view t).graph c
+four_slots t c i e h l m n =
+    let at : (f j : ℕ) → j ≡ 4 * (c - 1) + f → f < 4 → get_or t.slots j 0 ≡ content (view t).graph c f = λ f j q lf. rw q (sym (get_or-take (4 * t.n) t.slots (4 * (c - 1) + f) 0 (omega arith))) in
+    four t.slots i (omega arith)
+    ∙ cc (at 0 i (omega arith) (omega arith), at 1 (i + 1) (omega arith) (omega arith), at 2 (i + 2) (omega arith) (omega arith), at 3 (i + 3) (omega arith) (omega arith))

@@ -6,6 +6,7 @@ use Rattle.heap.specs.Bits.{flags, Put}
 use Rattle.heap.specs.Calls.{lost, with_slot, given}
 use Rattle.heap.specs.Graph.{Graph}
 use Rattle.heap.specs.States.{State, view, sized}
+use Rattle.heap.specs.declared.bits.Bits.{Bits}
 use Rattle.heap.specs.declared.graph.Graph.{Graph as Tables}
 use Rattle.std.proofs.lemmas.List.{take-replicate}
 use Rattle.std.proofs.lemmas.Bool.{or_right, eq-eqb}
@@ -16,18 +17,19 @@ make g suspects last = record { graph = g; suspects = suspects; last = last }
 pub same_suspects : (g : Graph) (a b : List Bool) (last : ℕ) → a ≡ b → make g a last ≡ make g b last
 same_suspects g a b last e = ap (λ (x : List Bool). make g x last) e
 
-abbrev pub tables : ℕ → List ℕ → List ℕ → List ℕ → List ℕ → List ℕ → ℕ → Tables
-tables n slots roots holds used suspects last = record { n = n; slots = slots; roots = roots; holds = holds; used = used; suspects = suspects; last = last }
+abbrev pub bits : List ℕ → Bits
+bits bytes = record { bytes = bytes }
 
-pub view_none : (n : ℕ) → n ≤ 1024 → view (tables n (replicate 4096 0) (replicate 16 0) (replicate 16 0) (replicate 128 0) (replicate 128 0) 0) ≡ sized n
+pub view_none : (n : ℕ) → n ≤ 1024
+    → view (record { n = n; slots = replicate 4096 0; roots = replicate 16 0; holds = replicate 16 0; used = bits (replicate 128 0); suspects = bits (replicate 128 0); last = 0 }) ≡ sized n
 view_none n h =
     let s : take (4 * n) (replicate 4096 0) ≡ replicate (4 * n) 0 = take-replicate {X = ℕ} (4 * n) 4096 0 (omega arith) in
     let b = flags_none n in
     rw s (rw b refl)
 
 -- A write of slot i, with the suspects that it makes.
-pub view_slot : (t : Tables) (i c : ℕ) (suspects : List ℕ) → i < 4 * t.n → flags t.n suspects ≡ lost (get_or t.slots i 0) c (flags t.n t.suspects)
-    → view (tables t.n (set t.slots i c) t.roots t.holds t.used suspects t.last) ≡ with_slot (view t) i c
+pub view_slot : (t : Tables) (i c : ℕ) (suspects : Bits) → i < 4 * t.n → flags t.n suspects.bytes ≡ lost (get_or t.slots i 0) c (flags t.n t.suspects.bytes)
+    → view (record t { slots = set t.slots i c; suspects = suspects }) ≡ with_slot (view t) i c
 view_slot t i c suspects l e =
     let s = take-set-lt (4 * t.n) t.slots i c l in
     let o = get_or-take (4 * t.n) t.slots i 0 l in
@@ -42,6 +44,5 @@ view_same t i c l e =
     rw s (rw k refl)
 
 -- The cell c is taken into use.
-pub view_given : (t : Tables) (c : ℕ) (used : List ℕ) → 0 < c → c ≤ t.n → Put c true t.used used
-    → view (tables t.n t.slots t.roots t.holds used t.suspects c) ≡ given (view t) c
-view_given t c used h l p = let e = flags_put t.n c true t.used used h l p in rw e refl
+pub view_given : (t : Tables) (c : ℕ) (used : Bits) → 0 < c → c ≤ t.n → Put c true t.used.bytes used.bytes → view (record t { used = used; last = c }) ≡ given (view t) c
+view_given t c used h l p = let e = flags_put t.n c true t.used.bytes used.bytes h l p in rw e refl

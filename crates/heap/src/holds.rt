@@ -1,46 +1,23 @@
 //! The calls that open and empty a hold.
-ghost use Rattle.std.specs.Prelude.{◌≡◌, ◌<◌, true};
-ghost use Rattle.heap.specs.Calls.{FreeHold, Hold, Opened, Release, Returned, Unmoved, open_token, release_cause};
+ghost use Rattle.std.specs.Prelude.{◌≡◌};
+ghost use Rattle.heap.specs.Calls.{FreeHold, Hold, Opened, Release, Returned, Unmoved, open_token, release_cause, release_checks};
 ghost use Rattle.heap.specs.Keeps.{Keeps};
-ghost use Rattle.heap.specs.States.{state, view};
+ghost use Rattle.heap.specs.Refusals.{cause_of};
+ghost use Rattle.heap.specs.States.{state};
+ghost use Rattle.std.specs.Result.{result_err};
 
-use crate::graph::Graph;
+use crate::checks::root_place;
 use crate::heap::Heap;
 use crate::token::{Token, Unreleased};
 use ledgers::Ledger;
 use refusals::Refusal;
-
-impl Graph {
-    /// The lowest empty hold.
-    fn empty_hold(&self) -> Option<u8>
-        ensures { FreeHold (view self.now) result }
-    {
-        for k in 0..16u8 {
-            if self.holds[k as usize] == 0 {
-                return Some(k);
-            }
-        }
-        None
-    }
-
-    /// Whether the token's hold contains its cell.
-    fn is_open(&self, token: &Token) -> bool
-        ensures does { result ≡ open_token (view self.now) token.now }
-        ensures hold { result ≡ true → token.now.hold < 16 }
-    {
-        if token.hold > 15 || token.cell == 0 {
-            return false;
-        }
-        self.holds[token.hold as usize] == token.cell
-    }
-}
 
 impl Heap {
     /// Whether a token is open here: its hold contains its cell.
     pub fn is_open(&self, token: &Token) -> bool
         ensures { result ≡ open_token (state self.now) token.now }
     {
-        self.graph.is_open(token)
+        token.cell != 0 && self.graph.holds.get(usize::from(token.hold)) == Some(&token.cell)
     }
 
     /// Puts the cell in root `r` into the lowest empty hold, and answers the token of that hold.
@@ -50,21 +27,15 @@ impl Heap {
         ensures keeps { Keeps L.Ledger.ops (state self.old) ledger.now (state self.new) ledger.now }
         ensures opened { Opened result (state self.new) }
     {
-        if r > 15 {
-            return Err(Refusal::Root);
-        }
-        if self.graph.n == 0 {
-            return Err(Refusal::Unsized);
-        }
-        let cell = self.graph.roots[r as usize];
-        if cell == 0 {
-            return Err(Refusal::Empty);
-        }
-        let Some(hold) = self.graph.empty_hold() else {
-            return Err(Refusal::Holds);
-        };
-        self.graph.put_hold(hold as usize, cell);
-        Ok(Token { hold, cell })
+        let root = root_place(r)?;
+        self.check_sized()?;
+        let cell = self.cell_in(root)?;
+        let hold = self.empty_hold().ok_or(Refusal::Holds)?;
+        self.put_hold(hold, cell);
+        Ok(Token {
+            hold: hold as u8,
+            cell,
+        })
     }
 
     /// Takes a token back, and empties its hold. A refused token is given back.
@@ -73,19 +44,28 @@ impl Heap {
         ensures kept { Returned token result self.old self.new }
         ensures keeps { Keeps L.Ledger.ops (state self.old) ledger.now (state self.new) ledger.now }
     {
-        if self.graph.n == 0 {
-            return Err(Unreleased {
-                cause: Refusal::Unsized,
-                token,
-            });
+        if let Err(cause) = self.check_open(&token) {
+            return Err(Unreleased { cause, token });
         }
-        if !self.graph.is_open(&token) {
-            return Err(Unreleased {
-                cause: Refusal::Token,
-                token,
-            });
+        self.put_hold(usize::from(token.spend()), 0);
+        Ok(())
+    }
+
+    /// The lowest empty hold.
+    fn empty_hold(&self) -> Option<usize>
+        ensures { FreeHold (state self.now) result }
+    {
+        self.graph.holds.iter().position(|&cell| cell == 0)
+    }
+
+    /// Why a token can't be taken back here, if it can't.
+    fn check_open(&self, token: &Token) -> Result<(), Refusal>
+        ensures { result_err result ≡ cause_of (release_checks (state self.now) token.now) }
+    {
+        self.check_sized()?;
+        if !self.is_open(token) {
+            return Err(Refusal::Token);
         }
-        self.graph.put_hold(token.spend() as usize, 0);
         Ok(())
     }
 }

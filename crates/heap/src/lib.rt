@@ -2,6 +2,7 @@
 #![tactic(auto)]
 
 mod bits;
+mod checks;
 mod graph;
 mod heap;
 mod holds;

@@ -1,18 +1,44 @@
 //! A new heap, and what can be read of one.
-ghost use Rattle.std.specs.Prelude.{◌≡◌};
-ghost use Rattle.heap.specs.Looks.{live_cells, look_root, look_slot, look_suspect, look_used};
+ghost use Rattle.std.specs.Prelude.{◌≡◌, ◌+◌, ◌-◌, ◌*◌, ◌<◌, ◌≤◌};
+ghost use Rattle.heap.specs.Graph.{content};
+ghost use Rattle.heap.specs.Looks.{is_cell, live_cells, look_root, look_slot, look_suspect, look_used};
 ghost use Rattle.heap.specs.States.{sized, state};
 
-use crate::bits::{count, test};
+use crate::bits::Bits;
 use crate::graph::Graph;
 use crate::heap::Heap;
+
+/// The number of slot `f` of cell `c`.
+pub(crate) fn slot_number(c: u16, f: u8) -> u16
+    requires cell { (0 < c) × (c ≤ 1024) }
+    requires slot { f < 4 }
+    ensures { result ≡ 4 * (c - 1) + f }
+{
+    4 * (c - 1) + u16::from(f)
+}
 
 impl Heap {
     /// A heap that isn't sized: it has no cells.
     pub fn new() -> Heap
         ensures { state result ≡ sized 0 }
     {
-        let graph = Graph::sized(0);
+        Heap::sized(0)
+    }
+
+    /// `n` free cells, and nothing in any slot, root or hold.
+    pub(crate) fn sized(n: u16) -> Heap
+        requires { n ≤ 1024 }
+        ensures { state result ≡ sized n }
+    {
+        let graph = Graph {
+            n,
+            slots: [0; 4096],
+            roots: [0; 16],
+            holds: [0; 16],
+            used: Bits::new(),
+            suspects: Bits::new(),
+            last: 0,
+        };
         Heap { graph }
     }
 
@@ -27,50 +53,50 @@ impl Heap {
     pub fn root(&self, r: u8) -> Option<u16>
         ensures { result ≡ look_root (state self.now) r }
     {
-        if r < 16 {
-            Some(self.graph.roots[r as usize])
-        } else {
-            None
-        }
+        self.graph.roots.get(usize::from(r)).copied()
     }
 
     /// What slot `f` of cell `c` contains, if there is such a slot.
     pub fn slot(&self, c: u16, f: u8) -> Option<u16>
         ensures { result ≡ look_slot (state self.now) c f }
     {
-        if c > 0 && c <= self.cells() && f < 4 {
-            Some(self.graph.content(c, f))
-        } else {
-            None
-        }
+        (self.has_cell(c) && f < 4).then(|| self.content(c, f))
     }
 
     /// Whether cell `c` is in use, if there is such a cell.
     pub fn in_use(&self, c: u16) -> Option<bool>
         ensures { result ≡ look_used (state self.now) c }
     {
-        if c > 0 && c <= self.cells() {
-            Some(test(&self.graph.used, c))
-        } else {
-            None
-        }
+        self.has_cell(c).then(|| self.graph.used.test(c))
     }
 
     /// Whether cell `c` is a suspect, if there is such a cell.
     pub fn is_suspect(&self, c: u16) -> Option<bool>
         ensures { result ≡ look_suspect (state self.now) c }
     {
-        if c > 0 && c <= self.cells() {
-            Some(test(&self.graph.suspects, c))
-        } else {
-            None
-        }
+        self.has_cell(c).then(|| self.graph.suspects.test(c))
     }
 
     /// How many cells are in use.
     pub fn live(&self) -> u16
         ensures { result ≡ live_cells (state self.now) }
     {
-        count(&self.graph.used, self.cells())
+        self.graph.used.count(self.cells())
+    }
+
+    fn has_cell(&self, c: u16) -> bool
+        ensures { result ≡ is_cell (state self.now) c }
+    {
+        c > 0 && c <= self.cells()
+    }
+
+    /// What slot `f` of cell `c` contains.
+    pub(crate) fn content(&self, c: u16, f: u8) -> u16
+        requires cell { (0 < c) × (c ≤ (state self.now).graph.cells) }
+        requires slot { f < 4 }
+        ensures cell { result ≤ (state self.now).graph.cells }
+        ensures does { result ≡ content (state self.now).graph c f }
+    {
+        self.graph.slots[usize::from(slot_number(c, f))]
     }
 }

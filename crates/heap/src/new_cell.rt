@@ -1,28 +1,12 @@
 //! The call that gives out a cell.
 ghost use Rattle.heap.specs.Calls.{FreeCell, New, Unmoved};
 ghost use Rattle.heap.specs.Keeps.{Keeps};
-ghost use Rattle.heap.specs.States.{state, view};
-ghost use Rattle.heap.specs.Within.{Safe};
+ghost use Rattle.heap.specs.States.{state};
 
-use crate::bits::first_clear;
-use crate::graph::Graph;
+use crate::checks::root_place;
 use crate::heap::Heap;
 use ledgers::Ledger;
 use refusals::Refusal;
-
-impl Graph {
-    /// The first free cell after the last given, going on from `n` to 1.
-    fn next_free(&self) -> Option<u16>
-        requires { Safe self.now }
-        ensures { FreeCell (view self.now) result }
-    {
-        let end = self.n + 1;
-        match first_clear(&self.used, self.last.min(self.n) + 1, end) {
-            Some(c) => Some(c),
-            None => first_clear(&self.used, 1, end),
-        }
-    }
-}
 
 impl Heap {
     /// Puts the first free cell after the last given into root `r`, and answers its number.
@@ -31,35 +15,38 @@ impl Heap {
         ensures kept { Unmoved result self.old self.new }
         ensures keeps { Keeps L.Ledger.ops (state self.old) ledger.now (state self.new) ledger.now }
     {
-        if r > 15 {
-            return Err(Refusal::Root);
-        }
-        if self.graph.n == 0 {
-            return Err(Refusal::Unsized);
-        }
-        let Some(cell) = self.graph.next_free() else {
-            return Err(Refusal::Full);
-        };
-        self.graph.give(cell);
-        self.graph.put_root(r as usize, cell);
+        let root = root_place(r)?;
+        self.check_sized()?;
+        let cell = self.next_free().ok_or(Refusal::Full)?;
+        self.give(cell);
+        self.put_root(root, cell);
         Ok(cell)
+    }
+
+    /// The first free cell after the last given, going on from `n` to 1.
+    fn next_free(&self) -> Option<u16>
+        ensures { FreeCell (state self.now) result }
+    {
+        let used = &self.graph.used;
+        let end = self.graph.n + 1;
+        used.first_clear(self.graph.last.min(self.graph.n) + 1, end)
+            .or_else(|| used.first_clear(1, end))
     }
 }
 
 #[cfg(test)]
 mod tests {
-    use crate::bits::raise;
-    use crate::graph::Graph;
+    use crate::heap::Heap;
 
     // No call frees a cell yet, so the search is tried on tables of its own.
     #[test]
     fn going_round(rt: HostRuntime) {
-        let mut graph = Graph::sized(3);
-        raise(&mut graph.used, 1);
-        raise(&mut graph.used, 3);
-        graph.last = 3;
-        assert_eq!(rt; graph.next_free(), Some(2));
-        raise(&mut graph.used, 2);
-        assert_eq!(rt; graph.next_free(), None);
+        let mut heap = Heap::sized(3);
+        heap.graph.used.raise(1);
+        heap.graph.used.raise(3);
+        heap.graph.last = 3;
+        assert_eq!(rt; heap.next_free(), Some(2));
+        heap.graph.used.raise(2);
+        assert_eq!(rt; heap.next_free(), None);
     }
 }

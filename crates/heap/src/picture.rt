@@ -1,13 +1,11 @@
 //! The picture of a heap.
 ghost use Rattle.std.specs.Prelude.{◌<◌, ◌≤◌, ◌++◌, Some, codes};
 ghost use Rattle.heap.specs.Pictures.{cell_row, cell_rows, mark, picture, row};
-ghost use Rattle.heap.specs.States.{state, view};
-ghost use Rattle.heap.specs.Within.{Safe};
+ghost use Rattle.heap.specs.States.{state};
 ghost use Rattle.std.specs.Fmt.{WritesOnOk};
 
-use crate::bits::test;
-use crate::graph::Graph;
 use crate::heap::Heap;
+use crate::look::slot_number;
 use std::fmt;
 
 // A blank and a content, or a dash where there is none.
@@ -26,40 +24,32 @@ fn write_row<W: fmt::Write>(f: &mut fmt::Formatter<W>, contents: &[u16]) -> fmt:
     ensures { WritesOnOk W.Write.write_str_gives f.old result (row contents.now) f.new }
 {
     f.write_str(":")?;
-    for content in contents {
-        write_mark(f, *content)?;
+    for &content in contents {
+        write_mark(f, content)?;
     }
     f.write_str("\n")
 }
 
-impl Graph {
+impl Heap {
     // The row of cell `c`, if it is in use.
     fn write_cell<W: fmt::Write>(&self, f: &mut fmt::Formatter<W>, c: u16) -> fmt::Result
-        requires safe { Safe self.now }
-        requires least { 0 < c }
-        requires most { c ≤ self.now.n }
-        ensures { WritesOnOk W.Write.write_str_gives f.old result (cell_row (view self.now) c) f.new }
+        requires { (0 < c) × (c ≤ (state self.now).graph.cells) }
+        ensures { WritesOnOk W.Write.write_str_gives f.old result (cell_row (state self.now) c) f.new }
     {
-        if !test(&self.used, c) {
+        if !self.graph.used.test(c) {
             return Ok(());
         }
         write!(f, "{c}")?;
-        let slots = [
-            self.content(c, 0),
-            self.content(c, 1),
-            self.content(c, 2),
-            self.content(c, 3),
-        ];
-        write_row(f, &slots)
+        let first = usize::from(slot_number(c, 0));
+        write_row(f, &self.graph.slots[first..first + 4])
     }
 
     // The rows of all cells in use.
     fn write_cells<W: fmt::Write>(&self, f: &mut fmt::Formatter<W>) -> fmt::Result
-        requires { Safe self.now }
-        ensures { WritesOnOk W.Write.write_str_gives f.old result (cell_rows (view self.now) self.now.n) f.new }
+        ensures { WritesOnOk W.Write.write_str_gives f.old result (cell_rows (state self.now) (state self.now).graph.cells) f.new }
     {
-        for i in 0..self.n {
-            self.write_cell(f, i + 1)?;
+        for c in 1..=self.graph.n {
+            self.write_cell(f, c)?;
         }
         Ok(())
     }
@@ -69,7 +59,7 @@ impl fmt::Display for Heap {
     ghost output = { λ h. Some (picture (state h)) };
 
     fn fmt<W: fmt::Write>(&self, f: &mut fmt::Formatter<W>) -> fmt::Result {
-        self.graph.write_cells(f)?;
+        self.write_cells(f)?;
         f.write_str("roots")?;
         write_row(f, &self.graph.roots)?;
         f.write_str("holds")?;

@@ -3,6 +3,7 @@ ghost use Rattle.heap.specs.Calls.{Clear, Copy, Load, Unmoved};
 ghost use Rattle.heap.specs.Keeps.{Keeps};
 ghost use Rattle.heap.specs.States.{state};
 
+use crate::checks::{check_slot, root_place};
 use crate::heap::Heap;
 use ledgers::Ledger;
 use refusals::Refusal;
@@ -14,13 +15,9 @@ impl Heap {
         ensures kept { Unmoved result self.old self.new }
         ensures keeps { Keeps L.Ledger.ops (state self.old) ledger.now (state self.new) ledger.now }
     {
-        if r > 15 {
-            return Err(Refusal::Root);
-        }
-        if self.graph.n == 0 {
-            return Err(Refusal::Unsized);
-        }
-        self.graph.put_root(r as usize, 0);
+        let root = root_place(r)?;
+        self.check_sized()?;
+        self.put_root(root, 0);
         Ok(())
     }
 
@@ -30,14 +27,11 @@ impl Heap {
         ensures kept { Unmoved result self.old self.new }
         ensures keeps { Keeps L.Ledger.ops (state self.old) ledger.now (state self.new) ledger.now }
     {
-        if r > 15 || s > 15 {
-            return Err(Refusal::Root);
-        }
-        if self.graph.n == 0 {
-            return Err(Refusal::Unsized);
-        }
-        let content = self.graph.roots[s as usize];
-        self.graph.put_root(r as usize, content);
+        let to = root_place(r)?;
+        let from = root_place(s)?;
+        self.check_sized()?;
+        let content = self.graph.roots[from];
+        self.put_root(to, content);
         Ok(())
     }
 
@@ -47,21 +41,13 @@ impl Heap {
         ensures kept { Unmoved result self.old self.new }
         ensures keeps { Keeps L.Ledger.ops (state self.old) ledger.now (state self.new) ledger.now }
     {
-        if r > 15 || s > 15 {
-            return Err(Refusal::Root);
-        }
-        if f > 3 {
-            return Err(Refusal::Slot);
-        }
-        if self.graph.n == 0 {
-            return Err(Refusal::Unsized);
-        }
-        let cell = self.graph.roots[s as usize];
-        if cell == 0 {
-            return Err(Refusal::Empty);
-        }
-        let content = self.graph.content(cell, f);
-        self.graph.put_root(r as usize, content);
+        let to = root_place(r)?;
+        let from = root_place(s)?;
+        check_slot(f)?;
+        self.check_sized()?;
+        let cell = self.cell_in(from)?;
+        let content = self.content(cell, f);
+        self.put_root(to, content);
         Ok(())
     }
 }

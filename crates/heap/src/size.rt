@@ -3,7 +3,6 @@ ghost use Rattle.heap.specs.Calls.{Size, Unmoved};
 ghost use Rattle.heap.specs.Keeps.{Begins};
 ghost use Rattle.heap.specs.States.{state};
 
-use crate::graph::Graph;
 use crate::heap::Heap;
 use ledgers::Ledger;
 use refusals::Refusal;
@@ -15,16 +14,14 @@ impl Heap {
         ensures kept { Unmoved result self.old self.new }
         ensures begins { Begins L.Ledger.ops result (state self.new) ledger.new }
     {
-        if n == 0 || n > 1024 {
+        if !(1..=1024).contains(&n) {
             return Err(Refusal::Cells);
         }
         if self.graph.n != 0 {
             return Err(Refusal::Sized);
         }
-        if ledger.clear(n).is_err() {
-            return Err(Refusal::Ledger);
-        }
-        self.graph = Graph::sized(n);
+        ledger.clear(n).map_err(|_| Refusal::Ledger)?;
+        *self = Heap::sized(n);
         Ok(())
     }
 }

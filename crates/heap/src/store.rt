@@ -3,7 +3,9 @@ ghost use Rattle.heap.specs.Calls.{Store, Unmoved};
 ghost use Rattle.heap.specs.Keeps.{Keeps};
 ghost use Rattle.heap.specs.States.{state};
 
+use crate::checks::{check_slot, root_place};
 use crate::heap::Heap;
+use crate::look::slot_number;
 use ledgers::Ledger;
 use refusals::Refusal;
 
@@ -14,24 +16,16 @@ impl Heap {
         ensures kept { Unmoved result self.old self.new }
         ensures keeps { Keeps L.Ledger.ops (state self.old) ledger.old (state self.new) ledger.new }
     {
-        if r > 15 || s > 15 {
-            return Err(Refusal::Root);
-        }
-        if f > 3 {
-            return Err(Refusal::Slot);
-        }
-        if self.graph.n == 0 {
-            return Err(Refusal::Unsized);
-        }
-        let cell = self.graph.roots[r as usize];
-        if cell == 0 {
-            return Err(Refusal::Empty);
-        }
-        let old = self.graph.content(cell, f);
-        let new = self.graph.roots[s as usize];
+        let root = root_place(r)?;
+        let from = root_place(s)?;
+        check_slot(f)?;
+        self.check_sized()?;
+        let cell = self.cell_in(root)?;
+        let old = self.content(cell, f);
+        let new = self.graph.roots[from];
         if old != new {
-            let slot = 4 * (cell - 1) + f as u16;
-            self.graph.put_slot(slot as usize, new);
+            let slot = slot_number(cell, f);
+            self.put_slot(usize::from(slot), new);
             ledger.note(slot, old, new);
         }
         Ok(())

@@ -1,72 +1,56 @@
 //! Writes that keep the suspects.
-ghost use Rattle.std.specs.Prelude.{◌≡◌, ℕ, ◌*◌, ◌<◌, ◌≤◌, length, slice_index};
+ghost use Rattle.std.specs.Prelude.{◌≡◌, ℕ, ◌*◌, ◌<◌, ◌≤◌};
 ghost use Rattle.heap.specs.Bits.{flags};
 ghost use Rattle.heap.specs.Calls.{given, lost, with_hold, with_root, with_slot};
-ghost use Rattle.heap.specs.States.{view};
-ghost use Rattle.heap.specs.Within.{Safe};
+ghost use Rattle.heap.specs.States.{state};
 
-use crate::bits::raise;
-use crate::graph::Graph;
+use crate::bits::Bits;
+use crate::heap::Heap;
+use std::mem;
 
-/// A cell that is given up for another content becomes a suspect.
-fn give_up(suspects: &mut [u8], old: u16, new: u16)
-    requires { (old ≤ 1024) × (length suspects.old ≡ 128) }
-    ensures { (n : ℕ) → old ≤ n → flags n suspects.new ≡ lost old new (flags n suspects.old) }
+/// Puts a content in a place. A cell that is given up for another content becomes a suspect.
+fn put(place: &mut u16, content: u16, suspects: &mut Bits)
+    requires { place.old ≤ 1024 }
+    ensures place { place.new ≡ content }
+    ensures suspects { (n : ℕ) → place.old ≤ n → flags n suspects.new.bytes ≡ lost place.old content (flags n suspects.old.bytes) }
 {
-    if old != 0 && old != new {
-        raise(suspects, old);
+    let old = mem::replace(place, content);
+    if old != 0 && old != content {
+        suspects.raise(old);
     }
 }
 
-impl Graph {
+impl Heap {
     pub(crate) fn put_root(&mut self, r: usize, c: u16)
-        requires safe { Safe self.old }
         requires root { r < 16 }
-        requires cell { c ≤ self.old.n }
-        ensures safe { Safe self.new }
-        ensures does { view self.new ≡ with_root (view self.old) r c }
+        requires cell { c ≤ (state self.old).graph.cells }
+        ensures { state self.new ≡ with_root (state self.old) r c }
     {
-        let old = self.roots[r];
-        self.roots[r] = c;
-        give_up(&mut self.suspects, old, c);
+        put(&mut self.graph.roots[r], c, &mut self.graph.suspects);
     }
 
     pub(crate) fn put_slot(&mut self, i: usize, c: u16)
-        requires safe { Safe self.old }
-        requires slot { i < 4 * self.old.n }
-        requires cell { c ≤ self.old.n }
-        ensures safe { Safe self.new }
-        ensures does { view self.new ≡ with_slot (view self.old) i c }
+        requires slot { i < 4 * (state self.old).graph.cells }
+        requires cell { c ≤ (state self.old).graph.cells }
+        ensures { state self.new ≡ with_slot (state self.old) i c }
     {
-        let old = self.slots[i];
-        self.slots[i] = c;
-        give_up(&mut self.suspects, old, c);
+        put(&mut self.graph.slots[i], c, &mut self.graph.suspects);
     }
 
     pub(crate) fn put_hold(&mut self, k: usize, c: u16)
-        requires safe { Safe self.old }
         requires hold { k < 16 }
-        requires cell { c ≤ self.old.n }
-        ensures safe { Safe self.new }
-        ensures does { view self.new ≡ with_hold (view self.old) k c }
-        ensures cells { self.new.n ≡ self.old.n }
-        ensures put { slice_index self.new.holds k ≡ c }
+        requires cell { c ≤ (state self.old).graph.cells }
+        ensures { state self.new ≡ with_hold (state self.old) k c }
     {
-        let old = self.holds[k];
-        self.holds[k] = c;
-        give_up(&mut self.suspects, old, c);
+        put(&mut self.graph.holds[k], c, &mut self.graph.suspects);
     }
 
     /// Takes cell `c` into use.
     pub(crate) fn give(&mut self, c: u16)
-        requires safe { Safe self.old }
-        requires least { 0 < c }
-        requires most { c ≤ self.old.n }
-        ensures safe { Safe self.new }
-        ensures cells { self.new.n ≡ self.old.n }
-        ensures does { view self.new ≡ given (view self.old) c }
+        requires { (0 < c) × (c ≤ (state self.old).graph.cells) }
+        ensures { state self.new ≡ given (state self.old) c }
     {
-        raise(&mut self.used, c);
-        self.last = c;
+        self.graph.used.raise(c);
+        self.graph.last = c;
     }
 }

@@ -1,14 +1,6 @@
 use Rattle.std.proofs.Common.{Ok, rules}
 use Rattle.heap.proofs.Keeping.{clear_keeps}
-use Rattle.heap.specs.Calls.{Clear}
-use Rattle.heap.specs.States.{state, view}
 use Rattle.heap.proofs.heap.Heap.clear.Goals as goal
 
-pub returns : goal.returns
-returns g c =
-    let o = g.L.Ledger.ops in
-    let s = state c.args.self.now in
-    let s' = view c.put_root.new.self in
-    let l = c.args.ledger.now in
-    let does : Clear o c.args.r s l (Ok tt) s' l = search rules in
-    record { does = does; kept = tt; keeps = clear_keeps o c.args.r s s' l l (Ok tt) does }
+pub returns-clause-keeps : goal.returns-clause-keeps
+returns-clause-keeps g c = clear_keeps _ c.args.r _ _ _ _ (Ok tt) (search rules)

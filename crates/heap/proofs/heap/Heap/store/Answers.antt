@@ -1,8 +1,9 @@
 use Rattle.std.proofs.Common.{◌≡◌, ◌+◌, ◌-◌, ◌*◌, ◌<◌, get_or, take, Ok, refl, arith, rules}
+use Rattle.std.proofs.lemmas.Grind.{common_steps}
 use Rattle.heap.proofs.Keeping.{store_keeps}
 use Rattle.heap.proofs.Views.{view_same}
 use Rattle.heap.specs.Calls.{Store}
-use Rattle.heap.specs.States.{state, view}
+use Rattle.heap.specs.States.{state}
 use Rattle.std.proofs.lemmas.Bool.{eq-eqb}
 use Rattle.heap.proofs.heap.Heap.store.Goals as goal
 
@@ -10,7 +11,7 @@ pub returns-then-old-new : goal.returns-then-old-new
 returns-then-old-new g c =
     let o = g.L.Ledger.ops in
     let s = state c.args.self.now in
-    let s' = view c.put_slot.new.self in
+    let s' = state c.put_slot.new.self in
     let l = c.args.ledger.now in
     let l' = c.note.new.self in
     let does : Store o c.args.r c.args.f c.args.s s l (Ok tt) s' l' = search rules in
@@ -23,8 +24,8 @@ returns-else-old-new g c =
     let l = c.args.ledger.now in
     let t = c.args.self.now.graph in
     let i = 4 * (get_or t.roots c.args.r 0 - 1) + c.args.f in
-    let e : get_or (take (4 * t.n) t.slots) i 0 ≡ get_or t.roots c.args.s 0 = omega (arith, c.content-old.ensures.does) in
-    let w : i < 4 * t.n = omega (arith, c.args.self.now.roots c.args.r) in
+    let e : get_or (take (4 * t.n) t.slots) i 0 ≡ get_or t.roots c.args.s 0 = grind (arith, common_steps) in
+    let w : i < 4 * t.n = grind (arith, common_steps) in
     let does : Store o c.args.r c.args.f c.args.s s l (Ok tt) s l =
     (record { cause = search rules; state = view_same t i (get_or t.roots c.args.s 0) w e }, rw (eq-eqb _ _ e) refl) in
     record { does = does; kept = tt; keeps = (λ h. h, λ h. h) }
