@@ -26,8 +26,5 @@ set_flag xs i k h =
     (λ l. ⊎_elim (λ e. ap (λ (j : ℕ). get_or (set xs i true) j false) e ∙ get_or-set_same xs i true false l) (λ ne. get_or-set_other xs i k true false ne ∙ h) (cases_eq k i))
     (λ l. ap (λ (ys : List Bool). get_or ys k false) (set_past xs i true l) ∙ h) (cases_lt i (length xs))
 
-pub within_set : (n i v : ℕ) (xs : List ℕ) → Within n xs → v ≤ n → Within n (set xs i v)
-within_set n i v xs h w = each_set (λ (x : ℕ). x ≤ n) 0 i v xs h w
-
 pub within_none : (m n : ℕ) → Within n (replicate m 0)
 within_none m n k = omega (arith, each_same {A = ℕ} m k 0)

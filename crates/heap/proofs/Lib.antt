@@ -1,7 +1,6 @@
 pub mod BitLaws
 pub mod Contents
 pub mod Flags
-pub mod Shown
 pub mod Views
 pub mod Searches
 pub mod WellFormed

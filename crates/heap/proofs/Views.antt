@@ -1,27 +1,17 @@
 -- The tables as a state, after each write.
-use Rattle.std.proofs.Common.{◌≡◌, ℕ, ◌*◌, ◌<◌, ◌≤◌, Bool, true, ◌||◌, eqb, List, get_or, take, set, replicate, sym, refl, ap, ◌∙◌, arith, get_or-take}
+use Rattle.std.proofs.Common.{◌≡◌, ℕ, ◌*◌, ◌<◌, ◌≤◌, true, ◌||◌, eqb, get_or, take, set, replicate, sym, refl, ap, ◌∙◌, arith, get_or-take}
 use lib.Seq.{take-set-lt, set-get_or}
 use Rattle.heap.proofs.Flags.{flags_none, flags_put}
 use Rattle.heap.specs.Bits.{flags, Put}
 use Rattle.heap.specs.Calls.{lost, with_slot, given}
-use Rattle.heap.specs.Graph.{Graph}
-use Rattle.heap.specs.States.{State, view, sized}
+use Rattle.heap.specs.States.{view, sized}
 use Rattle.heap.specs.declared.bits.Bits.{Bits}
 use Rattle.heap.specs.declared.graph.Graph.{Graph as Tables}
 use Rattle.std.proofs.lemmas.List.{take-replicate}
 use Rattle.std.proofs.lemmas.Bool.{or_right, eq-eqb}
 
-abbrev pub make : Graph → List Bool → ℕ → State
-make g suspects last = record { graph = g; suspects = suspects; last = last }
-
-pub same_suspects : (g : Graph) (a b : List Bool) (last : ℕ) → a ≡ b → make g a last ≡ make g b last
-same_suspects g a b last e = ap (λ (x : List Bool). make g x last) e
-
-abbrev pub bits : List ℕ → Bits
-bits bytes = record { bytes = bytes }
-
 pub view_none : (n : ℕ) → n ≤ 1024
-    → view (record { n = n; slots = replicate 4096 0; roots = replicate 16 0; holds = replicate 16 0; used = bits (replicate 128 0); suspects = bits (replicate 128 0); last = 0 }) ≡ sized n
+    → view (record { n = n; slots = replicate 4096 0; roots = replicate 16 0; holds = replicate 16 0; used = record { bytes = replicate 128 0 }; suspects = record { bytes = replicate 128 0 }; last = 0 }) ≡ sized n
 view_none n h =
     let s : take (4 * n) (replicate 4096 0) ≡ replicate (4 * n) 0 = take-replicate {X = ℕ} (4 * n) 4096 0 (omega arith) in
     let b = flags_none n in
