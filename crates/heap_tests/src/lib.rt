@@ -17,12 +17,9 @@ mod tests {
     // What the rows held before the heap was sized does not matter.
     const ROW: ExactRow = ExactRow { value: 7 };
 
-    // The number of a refusal, or 0 for an accepted call.
-    fn cause<T: Drop>(answer: Result<T, Refusal>) -> u8 {
-        match answer {
-            Ok(_) => 0,
-            Err(refusal) => refusal.number(),
-        }
+    // The number of the refusal, if there is one.
+    fn cause<T: Drop>(answer: Result<T, Refusal>) -> Option<u8> {
+        answer.err().map(Refusal::number)
     }
 
     #[test]
@@ -37,7 +34,7 @@ mod tests {
             cause(heap.size(&mut ledger, 1024)),
             cause(heap.size(&mut ledger, 1)),
         ];
-        assert_eq!(rt; causes, [1, 1, 5, 0, 6]);
+        assert_eq!(rt; causes, [Some(1), Some(1), Some(5), None, Some(6)]);
         assert_eq!(rt;
             [heap.slot(1024, 3), heap.slot(1024, 4), heap.slot(1025, 0)],
             [Some(0), None, None]
@@ -53,7 +50,7 @@ mod tests {
             cause(heap.size(&mut ledger, 2)),
             cause(heap.size(&mut ledger, 1)),
         ];
-        assert_eq!(rt; causes, [7, 0]);
+        assert_eq!(rt; causes, [Some(7), None]);
         assert_eq!(rt; heap.cells(), 1);
     }
 
@@ -69,7 +66,7 @@ mod tests {
             cause(heap.new_cell(&ledger, 0)),
             cause(heap.new_cell(&ledger, 0)),
         ];
-        assert_eq!(rt; causes, [0, 2, 0, 0, 8]);
+        assert_eq!(rt; causes, [None, Some(2), None, None, Some(8)]);
         assert_eq!(rt; heap.root(0), Some(2));
         assert_eq!(rt; heap.is_suspect(1), Some(true));
     }
@@ -88,7 +85,7 @@ mod tests {
             cause(heap.store(&mut ledger, 0, 3, 0)),
             cause(heap.store(&mut ledger, 0, 3, 0)),
         ];
-        assert_eq!(rt; causes, [0, 9, 0, 3, 0, 0]);
+        assert_eq!(rt; causes, [None, Some(9), None, Some(3), None, None]);
         assert_eq!(rt; ledger.waiting(), 1);
         assert_eq!(rt; heap.is_suspect(1), Some(false));
     }
@@ -104,7 +101,7 @@ mod tests {
             cause(heap.new_cell(&ledger, 2)),
             cause(heap.store(&mut ledger, 0, 1, 2)),
         ];
-        assert_eq!(rt; causes, [0; 4]);
+        assert_eq!(rt; causes, [None; 4]);
         let Ok(text) = heap.to_string(rt.alloc()) else {
             return Err(Fail::new("out of memory"));
         };
@@ -127,14 +124,10 @@ mod tests {
     }
 
     // A second release of one token doesn't compile. Another hold is taken in its place.
-    fn hold_once<L: Ledger>(heap: &mut Heap, ledger: &L) -> u8 {
-        match heap.hold(ledger, 0) {
-            Ok(token) => {
-                take_back(heap, ledger, token);
-                0
-            }
-            Err(refusal) => refusal.number(),
-        }
+    fn hold_once<L: Ledger>(heap: &mut Heap, ledger: &L) -> Result<(), Refusal> {
+        let token = heap.hold(ledger, 0)?;
+        take_back(heap, ledger, token);
+        Ok(())
     }
 
     #[test]
@@ -144,54 +137,57 @@ mod tests {
         let mut heap = Heap::new();
         let causes = [
             cause(heap.size(&mut ledger, 1)),
-            hold_once(&mut heap, &ledger),
+            cause(hold_once(&mut heap, &ledger)),
             cause(heap.new_cell(&ledger, 0)),
-            hold_once(&mut heap, &ledger),
-            hold_once(&mut heap, &ledger),
+            cause(hold_once(&mut heap, &ledger)),
+            cause(hold_once(&mut heap, &ledger)),
         ];
-        assert_eq!(rt; causes, [0, 9, 0, 0, 0]);
+        assert_eq!(rt; causes, [None, Some(9), None, None, None]);
     }
 
-    // Offers a token that is not open here, and takes it back with the number of the refusal.
-    fn offer<L: Ledger>(heap: &mut Heap, ledger: &L, token: Token) -> (u8, Token)
+    // Offers a token that is not open here.
+    fn offer<L: Ledger>(heap: &mut Heap, ledger: &L, token: Token) -> Unreleased
         requires { open_token (state heap.old) token ≡ false }
-        ensures token { result.1 ≡ token }
+        ensures token { result.token ≡ token }
         ensures heap { heap.new ≡ heap.old }
     {
-        match heap.release(ledger, token) {
-            Ok(()) => unreachable(),
-            Err(Unreleased { cause, token }) => (cause.number(), token),
-        }
+        let Err(unreleased) = heap.release(ledger, token) else {
+            unreachable()
+        };
+        unreleased
     }
 
     // Offers the token of one heap to another, and brings it back.
-    fn offer_elsewhere<L: Ledger>(left: &mut Heap, right: &mut Heap, ledger: &L, token: Token) -> u8
+    fn offer_elsewhere<L: Ledger>(
+        left: &mut Heap,
+        right: &mut Heap,
+        ledger: &L,
+        token: Token,
+    ) -> Result<(), Refusal>
         requires { cause_of (release_checks (state left.old) token) ≡ None }
         ensures { right.new ≡ right.old }
     {
         if right.is_open(&token) {
             take_back(left, ledger, token);
-            return 0;
+            return Ok(());
         }
-        let (number, token) = offer(right, ledger, token);
+        let Unreleased { cause, token } = offer(right, ledger, token);
         take_back(left, ledger, token);
-        number
+        Err(cause)
     }
 
     // Both heaps have cells, and a cell in root 0.
-    fn hold_both<L: Ledger>(left: &mut Heap, right: &mut Heap, ledger: &L) -> u8 {
-        let Ok(ours) = left.hold(ledger, 0) else {
-            return 0;
-        };
+    fn hold_both<L: Ledger>(left: &mut Heap, right: &mut Heap, ledger: &L) -> Result<(), Refusal> {
+        let ours = left.hold(ledger, 0)?;
         match right.hold(ledger, 0) {
             Ok(theirs) => {
-                let number = offer_elsewhere(left, right, ledger, ours);
+                let outcome = offer_elsewhere(left, right, ledger, ours);
                 take_back(right, ledger, theirs);
-                number
+                outcome
             }
-            Err(_) => {
+            Err(refusal) => {
                 take_back(left, ledger, ours);
-                0
+                Err(refusal)
             }
         }
     }
@@ -209,27 +205,23 @@ mod tests {
             cause(left.new_cell(&ledger, 0)),
             cause(right.new_cell(&ledger, 0)),
             cause(right.new_cell(&ledger, 0)),
-            hold_both(&mut left, &mut right, &ledger),
+            cause(hold_both(&mut left, &mut right, &ledger)),
         ];
-        assert_eq!(rt; causes, [0, 0, 0, 0, 0, 11]);
+        assert_eq!(rt; causes, [None, None, None, None, None, Some(11)]);
     }
 
-    // Opens as many holds, one within the other, and empties them again. Answers the number of the first refusal.
-    fn nest<L: Ledger>(heap: &mut Heap, ledger: &L, holds: u8) -> u8
+    // Opens as many holds, one within the other, and empties them again. Answers the first refusal.
+    fn nest<L: Ledger>(heap: &mut Heap, ledger: &L, holds: u8) -> Result<(), Refusal>
         ensures cells { (state heap.new).graph.cells ≡ (state heap.old).graph.cells }
         ensures holds { (state heap.new).graph.holds ≡ (state heap.old).graph.holds }
     {
         if holds == 0 {
-            return 0;
+            return Ok(());
         }
-        match heap.hold(ledger, 0) {
-            Ok(token) => {
-                let number = nest(heap, ledger, holds - 1);
-                take_back(heap, ledger, token);
-                number
-            }
-            Err(refusal) => refusal.number(),
-        }
+        let token = heap.hold(ledger, 0)?;
+        let outcome = nest(heap, ledger, holds - 1);
+        take_back(heap, ledger, token);
+        outcome
     }
 
     #[test]
@@ -240,9 +232,9 @@ mod tests {
         let causes = [
             cause(heap.size(&mut ledger, 1)),
             cause(heap.new_cell(&ledger, 0)),
-            nest(&mut heap, &ledger, 16),
-            nest(&mut heap, &ledger, 17),
+            cause(nest(&mut heap, &ledger, 16)),
+            cause(nest(&mut heap, &ledger, 17)),
         ];
-        assert_eq!(rt; causes, [0, 0, 0, 10]);
+        assert_eq!(rt; causes, [None, None, None, Some(10)]);
     }
 }

@@ -7,15 +7,15 @@ use Rattle.heap_tests.proofs.tests.+nest.Goals as goal
 emptied-again : (xs : List ℕ) (k c : ℕ) → get_or xs k 0 ≡ 0 → set (set xs k c) k 0 ≡ xs
 emptied-again xs k c e = set-set xs k c 0 ∙ ap (set xs k) (sym e) ∙ set-get_or xs k 0
 
-pub returns-in-Ok : goal.returns-in-Ok
-returns-in-Ok g t c =
-    let held = c.in-Ok.ensures.does in
+pub returns : goal.returns
+returns g t c =
+    let held = c.in_ok-token.ensures.does in
     let opened = held.0.state in
     let closed = c.take_back.ensures in
-    let k = c.in-Ok.token.hold in
+    let k = c.in_ok-token.token.hold in
     record {
-      cells = ap (λ (s : State). s.graph.cells) closed ∙ c.nest-number.ensures.cells ∙ ap (λ (s : State). s.graph.cells) opened;
+      cells = ap (λ (s : State). s.graph.cells) closed ∙ c.nest-outcome.ensures.cells ∙ ap (λ (s : State). s.graph.cells) opened;
       holds = ap (λ (s : State). s.graph.holds) closed
-          ∙ ap (λ (xs : List ℕ). set xs k 0) (c.nest-number.ensures.holds ∙ ap (λ (s : State). s.graph.holds) opened)
+          ∙ ap (λ (xs : List ℕ). set xs k 0) (c.nest-outcome.ensures.holds ∙ ap (λ (s : State). s.graph.holds) opened)
           ∙ emptied-again (state c.args.heap.now).graph.holds k _ held.1.empty;
     }
