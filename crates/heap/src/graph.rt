@@ -1,4 +1,6 @@
 //! What a heap keeps.
+ghost use Rattle.std.specs.Prelude.{◌≡◌, ◌+◌, ◌-◌, ◌*◌, ◌<◌, ◌≤◌};
+
 use crate::bits::Bits;
 
 /// The tables of a heap of `n` cells. Slot `f` of cell `c` stands at `4 * (c - 1) + f`; a slot, a root or a hold contains 0 or a cell.
@@ -12,4 +14,13 @@ pub struct Graph {
     pub used: Bits,
     pub suspects: Bits,
     pub last: u16,
+}
+
+/// The number of slot `f` of cell `c`.
+pub(crate) fn slot_number(c: u16, f: u8) -> u16
+    requires cell { (0 < c) × (c ≤ 1024) }
+    requires slot { f < 4 }
+    ensures { result ≡ 4 * (c - 1) + f }
+{
+    4 * (c - 1) + u16::from(f)
 }

@@ -1,21 +1,12 @@
 //! A new heap, and what can be read of one.
-ghost use Rattle.std.specs.Prelude.{◌≡◌, ◌+◌, ◌-◌, ◌*◌, ◌<◌, ◌≤◌};
+ghost use Rattle.std.specs.Prelude.{◌≡◌, ◌<◌, ◌≤◌, IsTrue};
 ghost use Rattle.heap.specs.Graph.{content};
 ghost use Rattle.heap.specs.Looks.{is_cell, live_cells, look_root, look_slot, look_suspect, look_used};
 ghost use Rattle.heap.specs.States.{sized, state};
 
 use crate::bits::Bits;
-use crate::graph::Graph;
+use crate::graph::{Graph, slot_number};
 use crate::heap::Heap;
-
-/// The number of slot `f` of cell `c`.
-pub(crate) fn slot_number(c: u16, f: u8) -> u16
-    requires cell { (0 < c) × (c ≤ 1024) }
-    requires slot { f < 4 }
-    ensures { result ≡ 4 * (c - 1) + f }
-{
-    4 * (c - 1) + u16::from(f)
-}
 
 impl Heap {
     /// A heap that isn't sized: it has no cells.
@@ -92,7 +83,7 @@ impl Heap {
 
     /// What slot `f` of cell `c` contains.
     pub(crate) fn content(&self, c: u16, f: u8) -> u16
-        requires cell { (0 < c) × (c ≤ (state self.now).graph.cells) }
+        requires cell { IsTrue (is_cell (state self.now) c) }
         requires slot { f < 4 }
         ensures cell { result ≤ (state self.now).graph.cells }
         ensures does { result ≡ content (state self.now).graph c f }

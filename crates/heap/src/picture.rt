@@ -1,11 +1,12 @@
 //! The picture of a heap.
-ghost use Rattle.std.specs.Prelude.{◌<◌, ◌≤◌, ◌++◌, Some, codes};
+ghost use Rattle.std.specs.Prelude.{◌++◌, IsTrue, Some, codes};
+ghost use Rattle.heap.specs.Looks.{is_cell};
 ghost use Rattle.heap.specs.Pictures.{cell_row, cell_rows, mark, picture, row};
 ghost use Rattle.heap.specs.States.{state};
 ghost use Rattle.std.specs.Fmt.{WritesOnOk};
 
+use crate::graph::slot_number;
 use crate::heap::Heap;
-use crate::look::slot_number;
 use std::fmt;
 
 // A blank and a content, or a dash where there is none.
@@ -33,7 +34,7 @@ fn write_row<W: fmt::Write>(f: &mut fmt::Formatter<W>, contents: &[u16]) -> fmt:
 impl Heap {
     // The row of cell `c`, if it is in use.
     fn write_cell<W: fmt::Write>(&self, f: &mut fmt::Formatter<W>, c: u16) -> fmt::Result
-        requires { (0 < c) × (c ≤ (state self.now).graph.cells) }
+        requires { IsTrue (is_cell (state self.now) c) }
         ensures { WritesOnOk W.Write.write_str_gives f.old result (cell_row (state self.now) c) f.new }
     {
         if !self.graph.used.test(c) {

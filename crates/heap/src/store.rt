@@ -4,8 +4,8 @@ ghost use Rattle.heap.specs.Keeps.{Keeps};
 ghost use Rattle.heap.specs.States.{state};
 
 use crate::checks::{check_slot, root_place};
+use crate::graph::slot_number;
 use crate::heap::Heap;
-use crate::look::slot_number;
 use ledgers::Ledger;
 use refusals::Refusal;
 

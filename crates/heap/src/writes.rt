@@ -1,7 +1,8 @@
 //! Writes that keep the suspects.
-ghost use Rattle.std.specs.Prelude.{◌≡◌, ℕ, ◌*◌, ◌<◌, ◌≤◌};
+ghost use Rattle.std.specs.Prelude.{◌≡◌, ℕ, ◌*◌, ◌<◌, ◌≤◌, IsTrue};
 ghost use Rattle.heap.specs.Bits.{flags};
 ghost use Rattle.heap.specs.Calls.{given, lost, with_hold, with_root, with_slot};
+ghost use Rattle.heap.specs.Looks.{is_cell};
 ghost use Rattle.heap.specs.States.{state};
 
 use crate::bits::Bits;
@@ -47,7 +48,7 @@ impl Heap {
 
     /// Takes cell `c` into use.
     pub(crate) fn give(&mut self, c: u16)
-        requires { (0 < c) × (c ≤ (state self.old).graph.cells) }
+        requires { IsTrue (is_cell (state self.old) c) }
         ensures { state self.new ≡ given (state self.old) c }
     {
         self.graph.used.raise(c);
