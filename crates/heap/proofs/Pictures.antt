@@ -21,11 +21,11 @@ marks_more xs i h =
     ∙ sym (ap marks (take_more xs i 0 h) ∙ marks_append (take i xs) (get_or xs i 0 ∷ []))
 
 -- The row of a cell, by its bit in the use map.
-pub free_row : (t : Tables) (c : ℕ) → 0 < c → c ≤ t.n → is_set t.used.bytes c ≡ false → [] ≡ cell_row (view t) c
-free_row t c h l e = sym (cond-false (get_or (flags t.n t.used.bytes) (c - 1) false) _ _ (flag_at t.n c t.used.bytes h l ∙ e))
+pub free_row : (t : Tables) (c : ℕ) → 0 < c → c ≤ t.n → is_set t.used c ≡ false → [] ≡ cell_row (view t) c
+free_row t c h l e = sym (cond-false (get_or (flags t.n t.used) (c - 1) false) _ _ (flag_at t.n c t.used h l ∙ e))
 
-pub used_row : (t : Tables) (c : ℕ) → 0 < c → c ≤ t.n → is_set t.used.bytes c ≡ true → decimal c ++ row (slots_of (view t).graph c) ≡ cell_row (view t) c
-used_row t c h l e = sym (cond-true (get_or (flags t.n t.used.bytes) (c - 1) false) _ _ (flag_at t.n c t.used.bytes h l ∙ e))
+pub used_row : (t : Tables) (c : ℕ) → 0 < c → c ≤ t.n → is_set t.used c ≡ true → decimal c ++ row (slots_of (view t).graph c) ≡ cell_row (view t) c
+used_row t c h l e = sym (cond-true (get_or (flags t.n t.used) (c - 1) false) _ _ (flag_at t.n c t.used h l ∙ e))
 
 -- One more cell.
 pub rows_more : (s : State) (c : ℕ) → 0 < c → cell_rows s (c - 1) ++ cell_row s c ≡ cell_rows s c

@@ -41,41 +41,41 @@ no_sooner m from c d h l f = ⊎_elim (λ s. absurd (both_ways (is_set m d) f (h
 no_later : (m : List ℕ) (last n k d : ℕ) → k ≡ min last n → ((e : ℕ) → k + 1 ≤ e → e < n + 1 → is_set m e ≡ true) → d ≤ n → is_set m d ≡ false → d ≤ last
 no_later m last n k d i h l f = ⊎_elim (λ s. absurd (both_ways (is_set m d) f (h d (omega arith) (omega arith)))) (λ s. s) (cases_lt last d)
 
-free_cell : (t : Tables) (c : ℕ) → 0 < c → c ≤ t.n → is_set t.used.bytes c ≡ false
-    → ((d : ℕ) → 1 ≤ d → d ≤ t.n → is_set t.used.bytes d ≡ false → turn (view t) c ≤ turn (view t) d) → FreeCell (view t) (Some c)
+free_cell : (t : Tables) (c : ℕ) → 0 < c → c ≤ t.n → is_set t.used c ≡ false
+    → ((d : ℕ) → 1 ≤ d → d ≤ t.n → is_set t.used d ≡ false → turn (view t) c ≤ turn (view t) d) → FreeCell (view t) (Some c)
 free_cell t c h l f first =
-    let e : get_or (flags t.n t.used.bytes) (c - 1) false ≡ false = flag_at t.n c t.used.bytes h l ∙ f in (
-      record { least = h; most = l; free = e; first = λ d hd ld fd. first d hd ld (sym (flag_at t.n d t.used.bytes hd ld) ∙ fd) },
-      all_false (flags t.n t.used.bytes) (c - 1) (omega (arith, length_flags t.n t.used.bytes)) e,
+    let e : get_or (flags t.n t.used) (c - 1) false ≡ false = flag_at t.n c t.used h l ∙ f in (
+      record { least = h; most = l; free = e; first = λ d hd ld fd. first d hd ld (sym (flag_at t.n d t.used hd ld) ∙ fd) },
+      all_false (flags t.n t.used) (c - 1) (omega (arith, length_flags t.n t.used)) e,
     )
 
 -- A free cell after the last given.
-pub found_after : (t : Tables) (k c : ℕ) → k ≡ min t.last t.n → c < t.n + 1 → ClearAt t.used.bytes (k + 1) c → FreeCell (view t) (Some c)
+pub found_after : (t : Tables) (k c : ℕ) → k ≡ min t.last t.n → c < t.n + 1 → ClearAt t.used (k + 1) c → FreeCell (view t) (Some c)
 found_after t k c i l h =
     let after : t.last < c = omega (arith, h.least) in
     free_cell t c (omega arith) (omega arith) h.clear (λ d hd ld f.
     ⊎_elim
-    (λ s. let n = no_sooner t.used.bytes (k + 1) c d h (omega arith) f in omega (arith, turn_after t.last t.n c after, turn_after t.last t.n d s, n))
+    (λ s. let n = no_sooner t.used (k + 1) c d h (omega arith) f in omega (arith, turn_after t.last t.n c after, turn_after t.last t.n d s, n))
     (λ s. omega (arith, turn_after t.last t.n c after, turn_before t.last t.n d s))
     (cases_lt t.last d))
 
 -- All after the last given are in use: the search begins anew at 1.
-pub found_round : (t : Tables) (k : ℕ) → k ≡ min t.last t.n → ((d : ℕ) → k + 1 ≤ d → d < t.n + 1 → is_set t.used.bytes d ≡ true)
-    → (x : Option ℕ) → FirstClear t.used.bytes 1 (t.n + 1) x → FreeCell (view t) x
+pub found_round : (t : Tables) (k : ℕ) → k ≡ min t.last t.n → ((d : ℕ) → k + 1 ≤ d → d < t.n + 1 → is_set t.used d ≡ true)
+    → (x : Option ℕ) → FirstClear t.used 1 (t.n + 1) x → FreeCell (view t) x
 found_round t k i h (Some c) g =
-    let before : c ≤ t.last = no_later t.used.bytes t.last t.n k c i h (omega (arith, g.0)) g.1.clear in
+    let before : c ≤ t.last = no_later t.used t.last t.n k c i h (omega (arith, g.0)) g.1.clear in
     free_cell t c (omega (arith, g.1.least)) (omega (arith, g.0)) g.1.clear (λ d hd ld f.
-    let n = no_sooner t.used.bytes 1 c d g.1 hd f in
-    let b = no_later t.used.bytes t.last t.n k d i h ld f in
+    let n = no_sooner t.used 1 c d g.1 hd f in
+    let b = no_later t.used t.last t.n k d i h ld f in
     omega (arith, turn_before t.last t.n c before, turn_before t.last t.n d b, n))
 found_round t k i h None g =
-    all_true (flags t.n t.used.bytes) (λ j l.
-    let w : j < t.n = omega (arith, length_flags t.n t.used.bytes) in
-    flag_place t.n j t.used.bytes w ∙ g (j + 1) (omega arith) (omega arith))
+    all_true (flags t.n t.used) (λ j l.
+    let w : j < t.n = omega (arith, length_flags t.n t.used) in
+    flag_place t.n j t.used w ∙ g (j + 1) (omega arith) (omega arith))
 
 -- What is found after the last given, or else from 1 on.
-pub found : (t : Tables) (k : ℕ) → k ≡ min t.last t.n → (o : Option ℕ) → FirstClear t.used.bytes (k + 1) (t.n + 1) o
-    → (x : Option ℕ) → MatchOption o (FirstClear t.used.bytes 1 (t.n + 1) x) (λ c. x ≡ Some c) → FreeCell (view t) x
+pub found : (t : Tables) (k : ℕ) → k ≡ min t.last t.n → (o : Option ℕ) → FirstClear t.used (k + 1) (t.n + 1) o
+    → (x : Option ℕ) → MatchOption o (FirstClear t.used 1 (t.n + 1) x) (λ c. x ≡ Some c) → FreeCell (view t) x
 found t k i (Some c) f x e = rw e (found_after t k c i f.0 f.1)
 found t k i None f x g = found_round t k i f x g
 

@@ -13,8 +13,8 @@ pub record State : Type 0 where
 
 abbrev pub view : Tables → State
 view t = record {
-  graph = record { cells = t.n; slots = take (4 * t.n) t.slots; roots = t.roots; holds = t.holds; used = flags t.n t.used.bytes };
-  suspects = flags t.n t.suspects.bytes;
+  graph = record { cells = t.n; slots = take (4 * t.n) t.slots; roots = t.roots; holds = t.holds; used = flags t.n t.used };
+  suspects = flags t.n t.suspects;
   last = t.last;
 }
 

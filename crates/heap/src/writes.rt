@@ -13,7 +13,7 @@ use std::mem;
 fn put(place: &mut u16, content: u16, suspects: &mut Bits)
     requires { place.old ≤ 1024 }
     ensures place { place.new ≡ content }
-    ensures suspects { (n : ℕ) → place.old ≤ n → flags n suspects.new.bytes ≡ lost place.old content (flags n suspects.old.bytes) }
+    ensures suspects { (n : ℕ) → place.old ≤ n → flags n suspects.new ≡ lost place.old content (flags n suspects.old) }
 {
     let old = mem::replace(place, content);
     if old != 0 && old != content {

@@ -10,6 +10,6 @@ use Rattle.heap.proofs.bits.Bits.count.Goals as goal
 pub returns : goal.returns
 returns c =
     let n = c.args.n in
-    let m = c.args.self.now.bytes in
+    let m = c.args.self.now in
     count_from_yields_List _ _ c.count.ensures.ran (YieldsList-from_filter _ (is_set m) (YieldsList-from_range 1 (n + 1) n (cc) (omega arith)) c.filter.ensures.closure (λ x r q k. search (rules, tests)))
     ∙ length-filter (is_set m) _ ∙ sym (count_flags n m)

@@ -7,7 +7,7 @@ use Rattle.heap.proofs.bits.Bits.first_clear.Goals as goal
 
 pub returns : goal.returns
 returns c =
-    let m = c.args.self.now.bytes in
+    let m = c.args.self.now in
     let from = c.args.from in
     let end = c.args.end in
     found_clear m from end c.find.result
