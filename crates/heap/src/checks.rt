@@ -29,6 +29,7 @@ pub(crate) fn check_slot(f: u8) -> Result<(), Refusal>
 }
 
 impl Heap {
+    /// A heap that isn't sized has no cells.
     pub(crate) fn check_sized(&self) -> Result<(), Refusal>
         ensures ok { IsOk result ↔ ((state self.now).graph.cells ≢ 0) }
         ensures err { IsOkUnless result Refusal.Unsized }

@@ -75,6 +75,7 @@ impl Heap {
         self.graph.used.count(self.cells())
     }
 
+    /// Whether the heap has a cell `c`.
     fn has_cell(&self, c: u16) -> bool
         ensures { result ≡ is_cell (state self.now) c }
     {

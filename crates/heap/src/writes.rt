@@ -21,6 +21,7 @@ fn put(place: &mut u16, content: u16, suspects: &mut Bits)
     }
 }
 
+// A method for each table: its contract says which one changes.
 impl Heap {
     pub(crate) fn put_root(&mut self, r: usize, c: u16)
         requires root { r < 16 }

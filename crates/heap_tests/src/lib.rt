@@ -14,7 +14,7 @@ mod tests {
     use queue::Queue;
     use std::test::Fail;
 
-    // What the rows held before the heap was sized does not matter.
+    // What the rows held before the heap was sized does not matter. A ledger borrows its rows, so each test makes its own three values.
     const ROW: ExactRow = ExactRow { value: 7 };
 
     // The number of the refusal, if there is one.
@@ -112,7 +112,7 @@ mod tests {
         Ok(())
     }
 
-    // Takes an open token back.
+    // Takes an open token back. A `let .. else` would let go of the token in a refused release, which nothing may.
     fn take_back<L: Ledger>(heap: &mut Heap, ledger: &L, token: Token)
         requires { cause_of (release_checks (state heap.old) token) ≡ None }
         ensures { state heap.new ≡ with_hold (state heap.old) token.hold 0 }
