@@ -7,7 +7,8 @@ use Rattle.std.proofs.lemmas.List.Sums.{sum_by_push, sum_by-set, count_by-le-len
 use Rattle.std.proofs.lemmas.Bool.{cases_Bool, cond-true, cond-false, lt-ltb, le-ltb}
 use Rattle.parts.specs.Building.{known, added, about, mark, fault_in, Building, Described, Numbered, Filled, Grown, Crowded, Unfit}
 use Rattle.parts.specs.Drawn.{subject, mentions, firsts, Called, content}
-use Rattle.parts.specs.Faults.{any, long, unprintable, fault_of}
+use Rattle.parts.specs.Faults.{long, unprintable, fault_of}
+use Rattle.std.specs.List.{list_any}
 use Rattle.parts.specs.Text.{Bytes}
 use Rattle.parts.specs.declared.drawing.Drawing.{Drawing}
 use Rattle.parts.specs.declared.fault.LineError.{LineError}
@@ -30,8 +31,8 @@ none_first false false true x y z e = let n : ◌≡◌ {A = ℕ} 0 1 = cc in ab
 none_first false false false x y z e = (refl, refl, refl)
 
 -- the tests that the words pass by themselves
-pub passes : (ws : List Bytes) → fault_in ws ≡ None → (ltb 5 (length ws) ≡ false) × (any long ws ≡ false) × (any unprintable ws ≡ false)
-passes ws e = none_first (ltb 5 (length ws)) (any long ws) (any unprintable ws) _ _ _ e
+pub passes : (ws : List Bytes) → fault_in ws ≡ None → (ltb 5 (length ws) ≡ false) × (list_any long ws ≡ false) × (list_any unprintable ws ≡ false)
+passes ws e = none_first (ltb 5 (length ws)) (list_any long ws) (list_any unprintable ws) _ _ _ e
 
 module _ {ds : List (List Bytes)} {before : Drawing} (b : Building ds before) (ws : List Bytes) (fine : fault_in ws ≡ None) where
   -- the tests that are left
@@ -102,7 +103,7 @@ module _ {ds : List (List Bytes)} {before mid : Drawing} {w : Bytes} {part : ℕ
       let same = called_once (known mid) apart_mid was.0 part w (called_grown num.grown was.0 w was.1) num.called in
       about_mark b was.0 w was.1 ∙ sym (num.grown.told (was.0 - 1)) ∙ ap (mark mid) same ∙ unmarked)
       (λ f. about_unknown (known before) w ds b.subjects (λ was. true≢false (sym ((among_decides (known before) w).1 was) ∙ f)))
-      (cases_Bool (any (λ v. bytes_eq v w) (known before)))
+      (cases_Bool (list_any (λ v. bytes_eq v w) (known before)))
 
   pub described_crowded : (after : Drawing) (e : LineError) → Crowded rest mid e → Described ds (w ∷ rest) after (Err e)
   described_crowded after Memory h = tt

@@ -10,7 +10,7 @@ use Rattle.std.proofs.lemmas.Bool.{cases_Bool, cases_lt, true≢false, cond-true
 use Rattle.std.proofs.lemmas.Bool.Decides.{Decides-by_or}
 use Rattle.parts.specs.Text.{Bytes}
 use Rattle.parts.specs.Drawn.{mentions, firsts, Called}
-use Rattle.parts.specs.Faults.{any}
+use Rattle.std.specs.List.{list_any}
 use Rattle.parts.specs.Building.{added}
 
 pub same_yes : (v w : Bytes) → v ≡ w → bytes_eq v w ≡ true
@@ -22,18 +22,18 @@ same_no v w n = ⊎_elim (λ t. absurd (n ((bytes_eq-Decides v w).0 t))) (λ f. 
 pub differ : (v w : Bytes) → bytes_eq v w ≡ false → v ≡ w → ⊥
 differ v w f e = true≢false (sym (same_yes v w e) ∙ f)
 
-pub among_decides : (names : List Bytes) (w : Bytes) → Decides (any (λ v. bytes_eq v w) names) (Has names w)
-among_decides names w = Decides-by_or (λ v. bytes_eq v w) (λ v. v ≡ w) (any (λ v. bytes_eq v w)) (λ v. bytes_eq-Decides v w) refl (λ _ _. refl) names
+pub among_decides : (names : List Bytes) (w : Bytes) → Decides (list_any (λ v. bytes_eq v w) names) (Has names w)
+among_decides names w = Decides-by_or (λ v. bytes_eq v w) (λ v. v ≡ w) (list_any (λ v. bytes_eq v w)) (λ v. bytes_eq-Decides v w) refl (λ _ _. refl) names
 
 -- a name is known already
 pub added_known : (names : List Bytes) (w : Bytes) → Has names w → added names w ≡ names
-added_known names w h = cond-true (any (λ v. bytes_eq v w) names) names (names ++ w ∷ []) ((among_decides names w).1 h)
+added_known names w h = cond-true (list_any (λ v. bytes_eq v w) names) names (names ++ w ∷ []) ((among_decides names w).1 h)
 
-pub unknown : (names : List Bytes) (w : Bytes) → (Has names w → ⊥) → any (λ v. bytes_eq v w) names ≡ false
-unknown names w n = ⊎_elim (λ t. absurd (n ((among_decides names w).0 t))) (λ f. f) (cases_Bool (any (λ v. bytes_eq v w) names))
+pub unknown : (names : List Bytes) (w : Bytes) → (Has names w → ⊥) → list_any (λ v. bytes_eq v w) names ≡ false
+unknown names w n = ⊎_elim (λ t. absurd (n ((among_decides names w).0 t))) (λ f. f) (cases_Bool (list_any (λ v. bytes_eq v w) names))
 
 pub added_new : (names : List Bytes) (w : Bytes) → (Has names w → ⊥) → added names w ≡ names ++ w ∷ []
-added_new names w n = cond-false (any (λ v. bytes_eq v w) names) names (names ++ w ∷ []) (unknown names w n)
+added_new names w n = cond-false (list_any (λ v. bytes_eq v w) names) names (names ++ w ∷ []) (unknown names w n)
 
 -- a name more, among the names that are not m
 module _ (m w : Bytes) where
@@ -42,10 +42,10 @@ module _ (m w : Bytes) where
 
   others_added_same : (names : List Bytes) → bytes_eq w m ≡ true → others (added names w) ≡ others names
   others_added_same names e =
-      cond_both (any (λ v. bytes_eq v w) names) names (names ++ w ∷ []) (λ l. others l ≡ others names) (λ _. refl)
+      cond_both (list_any (λ v. bytes_eq v w) names) names (names ++ w ∷ []) (λ l. others l ≡ others names) (λ _. refl)
       (λ _. filter-append (λ v. not (bytes_eq v m)) names (w ∷ []) ∙ ap (λ b. others names ++ cond (not b) (w ∷ []) []) e ∙ append-nil (others names))
 
-  among_others : (names : List Bytes) → bytes_eq m w ≡ false → any (λ v. bytes_eq v w) (others names) ≡ any (λ v. bytes_eq v w) names
+  among_others : (names : List Bytes) → bytes_eq m w ≡ false → list_any (λ v. bytes_eq v w) (others names) ≡ list_any (λ v. bytes_eq v w) names
   among_others [] f = refl
   among_others (v ∷ names) f =
       let rest = among_others names f in
@@ -67,10 +67,10 @@ module _ (m w : Bytes) where
           let apart : bytes_eq w m ≡ false = same_no w m (λ q. differ m w f (sym q)) in
           let kept = among_others names f in
           ⊎_elim
-          (λ e. let k : any (λ v. bytes_eq v w) (others names) ≡ true = kept ∙ e in rw (f, e, k) refl)
-          (λ e. let k : any (λ v. bytes_eq v w) (others names) ≡ false = kept ∙ e in
+          (λ e. let k : list_any (λ v. bytes_eq v w) (others names) ≡ true = kept ∙ e in rw (f, e, k) refl)
+          (λ e. let k : list_any (λ v. bytes_eq v w) (others names) ≡ false = kept ∙ e in
           rw (f, e, k) (ap (λ l. m ∷ l) (filter-append (λ v. not (bytes_eq v m)) names (w ∷ []) ∙ ap (λ b. others names ++ cond (not b) (w ∷ []) []) apart)))
-          (cases_Bool (any (λ v. bytes_eq v w) names))
+          (cases_Bool (list_any (λ v. bytes_eq v w) names))
 
 pub firsts_push : (ms : List Bytes) (w : Bytes) → firsts (ms ++ w ∷ []) ≡ added (firsts ms) w
 firsts_push [] w = refl
@@ -108,7 +108,7 @@ distinct_added names w d =
     ⊎_elim
     (λ e. subst Distinct (sym (cond-true _ names (names ++ w ∷ []) e)) d)
     (λ e. subst Distinct (sym (cond-false _ names (names ++ w ∷ []) e)) (distinct_push names w d (λ h. true≢false (sym ((among_decides names w).1 h) ∙ e))))
-    (cases_Bool (any (λ v. bytes_eq v w) names))
+    (cases_Bool (list_any (λ v. bytes_eq v w) names))
 
 distinct_folded : (names ws : List Bytes) → Distinct names → Distinct (fold added names ws)
 distinct_folded names [] d = d
@@ -123,7 +123,7 @@ added_more names w =
     ⊎_elim
     (λ e. ([], cond-true _ names (names ++ w ∷ []) e ∙ sym (append-nil names)))
     (λ e. (w ∷ [], cond-false _ names (names ++ w ∷ []) e))
-    (cases_Bool (any (λ v. bytes_eq v w) names))
+    (cases_Bool (list_any (λ v. bytes_eq v w) names))
 
 pub folded_more : (names ws : List Bytes) → (more : List Bytes) × (fold added names ws ≡ names ++ more)
 folded_more names [] = ([], sym (append-nil names))

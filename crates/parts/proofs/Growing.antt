@@ -1,14 +1,15 @@
 -- A drawing in which names become parts. Assumes nothing.
-use Rattle.std.proofs.Common.{◌≡◌, ℕ, zero, suc, ◌-◌, ◌*◌, ◌≤◌, Bool, false, cond, List, [], ◌∷◌, ◌++◌, map, length, get_or, vec_items, vec_len, count_by, sym, refl, ap, ◌∙◌, arith, Bor}
+use Rattle.std.proofs.Common.{◌≡◌, ℕ, zero, suc, ◌-◌, ◌*◌, ◌≤◌, Bool, true, false, cond, List, [], ◌∷◌, ◌++◌, map, length, get_or, vec_items, vec_len, count_by, ◌+◌, ◌<◌, ⊎_elim, true≢false, sym, refl, ap, ◌∙◌, arith, Bor}
 use lib.ListN.{length-map}
-use Rattle.std.specs.List.{ContainsAt as Has}
-use Rattle.std.proofs.lemmas.List.{map_push, length_push, get_or_push, get_or_read_under}
+use Rattle.std.specs.List.{AllWithin, HoldsAt, ContainsAt as Has}
+use Rattle.std.proofs.lemmas.List.{get_or-map, get_or_past, get_or_append_left, map_push, length_push, get_or_push, get_or_read_under}
+use Rattle.std.proofs.lemmas.Bool.{cases_lt}
 use Rattle.std.proofs.lemmas.List.Sums.{sum_by_push}
 use Rattle.parts.specs.declared.drawing.Drawing.{Drawing}
 use Rattle.parts.specs.Building.{known, mark, Numbered}
 use Rattle.parts.specs.Drawn.{Called}
 use Rattle.parts.specs.Text.{Bytes}
-use Rattle.parts.proofs.Firsts.{added_known, added_new, has_called}
+use Rattle.parts.proofs.Firsts.{folded_more, added_known, added_new, has_called}
 
 pub parts : (d : Drawing) → length (known d) ≡ vec_len d.names
 parts d = length-map (vec_items d.names) (λ w. w.now) ∙ sym d.names.ok.0
@@ -79,6 +80,38 @@ numbered_known w d c h = record {
   called = h;
   same = λ i. refl;
 }
+
+-- the first part of a name, by its place
+pub called_place : (names : List (Bor Bytes)) (w : Bytes) (i : ℕ) → i < length names → HoldsAt (λ v. v.now ≡ w) names i → Called (map (λ v. v.now) names) (i + 1) w
+called_place [] w i h at = absurd (omega arith)
+called_place (v ∷ vs) w i h at =
+    let back : i + 1 - 1 ≡ i = omega arith in (
+      omega arith,
+      omega (arith, length-map (v ∷ vs) (λ u. u.now)),
+      ap (λ k. get_or (map (λ u. u.now) (v ∷ vs)) k []) back ∙ get_or-map (λ u. u.now) (v ∷ vs) i v [] h ∙ at v,
+    )
+
+pub no_place : (names : List (Bor Bytes)) (w : Bytes) → AllWithin (λ v. v.now ≡ w → ⊥) names 0 (length names) → Has (map (λ v. v.now) names) w → ⊥
+no_place [] w none h = absurd (omega (arith, h.1))
+no_place (v ∷ vs) w none h =
+    let long : h.0 < length (v ∷ vs) = omega (arith, h.1, length-map (v ∷ vs) (λ u. u.now)) in
+    none h.0 v (omega arith) long (sym (get_or-map (λ u. u.now) (v ∷ vs) h.0 v [] long) ∙ h.2 [])
+
+-- a name whose part has a mark was known before it got its number
+pub marked_known : (w : Bytes) (before after : Drawing) (c : ℕ) → Numbered w before after c → mark after c ≡ true → Called (known before) c w × (mark before c ≡ true)
+marked_known w before after c num marked =
+    let was : mark before c ≡ true = sym (num.grown.told (c - 1)) ∙ marked in
+    let few : c - 1 < length (vec_items before.described) =
+    ⊎_elim (λ l. l) (λ g. absurd (true≢false (sym was ∙ get_or_past (vec_items before.described) (c - 1) false g))) (cases_lt (c - 1) (length (vec_items before.described))) in
+    let here : c - 1 < length (known before) = omega (arith, few, marks before) in
+    let more = folded_more (known before) (w ∷ []) in (
+      (
+        num.called.0,
+        omega (arith, here, num.called.0),
+        sym (ap (λ l. get_or l (c - 1) []) (num.grown.named ∙ more.1) ∙ get_or_append_left (known before) more.0 [] (c - 1) here) ∙ num.called.2,
+      ),
+      was,
+    )
 
 -- what the mark of a part is read as
 pub mark_read : (d : Drawing) (c i : ℕ) (b : Bool) → i ≡ c → 1 ≤ c → c ≤ length (known d) → b ≡ get_or (vec_items d.described) (i - 1) b → mark d c ≡ b

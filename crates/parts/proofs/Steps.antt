@@ -7,7 +7,7 @@ use Rattle.std.proofs.lemmas.List.{get_or_append_left, get_or_past}
 use Rattle.std.proofs.lemmas.Bool.{cases_lt, cases_eq, or_parts, or_right}
 use Rattle.parts.specs.Building.{added, about}
 use Rattle.parts.specs.Drawn.{subject, Called, content, Placed, Drawn}
-use Rattle.parts.specs.Faults.{any}
+use Rattle.std.specs.List.{list_any}
 use Rattle.parts.specs.Text.{Bytes}
 use Rattle.parts.proofs.Firsts.{same_yes, same_no, differ, Distinct, firsts_more, folded_more, folded_long, called_as, called_folded, called_once, called_has, has_called, has_folded}
 
@@ -27,9 +27,9 @@ or_assoc : (a b c : Bool) → (a || (b || c)) ≡ ((a || b) || c)
 or_assoc true b c = refl
 or_assoc false b c = refl
 
-any_push : {X : Type 0} (p : X → Bool) (xs : List X) (x : X) → any p (xs ++ x ∷ []) ≡ (any p xs || p x)
+any_push : {X : Type 0} (p : X → Bool) (xs : List X) (x : X) → list_any p (xs ++ x ∷ []) ≡ (list_any p xs || p x)
 any_push p [] x = or_none (p x)
-any_push p (y ∷ xs) x = ap (λ b. p y || b) (any_push p xs x) ∙ or_assoc (p y) (any p xs) (p x)
+any_push p (y ∷ xs) x = ap (λ b. p y || b) (any_push p xs x) ∙ or_assoc (p y) (list_any p xs) (p x)
 
 -- no description is about a name that is no part
 pub about_unknown : (names : List Bytes) (w : Bytes) (ds : List (List Bytes)) → AllByRecursion (λ d. Has names (subject d)) ds → (Has names w → ⊥) → about w ds ≡ false

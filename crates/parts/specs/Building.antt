@@ -5,7 +5,8 @@ use Rattle.std.specs.List.{ContainsAt as Has, AllByRecursion}
 use Rattle.std.specs.Str.{bytes_eq}
 use Rattle.parts.specs.Text.{Bytes}
 use Rattle.parts.specs.Drawn.{subject, references, Called, content, Drawn}
-use Rattle.parts.specs.Faults.{any, long, unprintable, check, first_fault, fault_of}
+use Rattle.parts.specs.Faults.{long, unprintable, check, first_fault, fault_of}
+use Rattle.std.specs.List.{list_any}
 use Rattle.parts.specs.declared.drawing.Drawing.{Drawing}
 use Rattle.parts.specs.declared.fault.LineError.{LineError}
 use Rattle.parts.specs.declared.fault.LineError.TheVariants.{Wrong, Memory}
@@ -22,11 +23,11 @@ known d = bytes (vec_items d.names)
 
 -- A name more, unless it is known.
 abbrev pub added : List Bytes → Bytes → List Bytes
-added names w = cond (any (λ v. bytes_eq v w) names) names (names ++ w ∷ [])
+added names w = cond (list_any (λ v. bytes_eq v w) names) names (names ++ w ∷ [])
 
 -- Whether a description is about the part of this name.
 abbrev pub about : Bytes → List (List Bytes) → Bool
-about w ds = any (λ d. bytes_eq (subject d) w) ds
+about w ds = list_any (λ d. bytes_eq (subject d) w) ds
 
 -- A drawing after descriptions. That its lists fit one another, and its counts the lists, is in its type.
 pub record Building (ds : List (List Bytes)) (d : Drawing) : Type 0 where
@@ -82,4 +83,4 @@ Unfit w before Memory = Unit {0}
 -- What is wrong with the words of a description, whatever came before it.
 abbrev pub fault_in : List Bytes → Option Fault
 fault_in ws =
-    first_fault (check (nat_lt 5 (length ws)) TooManyReferences ∷ check (any long ws) NameTooLong ∷ check (any unprintable ws) NameNotPrintable ∷ [])
+    first_fault (check (nat_lt 5 (length ws)) TooManyReferences ∷ check (list_any long ws) NameTooLong ∷ check (list_any unprintable ws) NameNotPrintable ∷ [])

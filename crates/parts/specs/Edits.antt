@@ -3,7 +3,8 @@ use Rattle.std.specs.Prelude.{◌≡◌, ℕ, ◌+◌, ◌-◌, ◌*◌, ◌<◌
 use Rattle.std.specs.List.{AllByRecursion}
 use Rattle.std.specs.Str.{bytes_eq}
 use Rattle.parts.specs.Drawn.{is_edit, subject, Called}
-use Rattle.parts.specs.Faults.{any, check, first_fault}
+use Rattle.parts.specs.Faults.{check, first_fault}
+use Rattle.std.specs.List.{list_any}
 use Rattle.parts.specs.Text.{Bytes, words}
 use Rattle.parts.specs.declared.edits.Edit.{Edit}
 use Rattle.parts.specs.declared.fault.LineError.{LineError}
@@ -34,7 +35,7 @@ owner w = take (length w - 2) w
 
 -- Whether a drawing has a part of this name.
 abbrev pub is_part : List Bytes → Bytes → Bool
-is_part names w = any (λ v. bytes_eq v w) names
+is_part names w = list_any (λ v. bytes_eq v w) names
 
 -- What is wrong with an edit of a drawing whose parts have these names.
 abbrev pub edit_fault : List Bytes → List Bytes → Option Fault

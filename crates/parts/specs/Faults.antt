@@ -1,14 +1,11 @@
 -- What is wrong with a text that draws nothing, and where.
-use Rattle.std.specs.Prelude.{◌≡◌, ℕ, ◌-◌, ◌<◌, ◌≤◌, Bool, false, cond, not, ◌&&◌, ◌||◌, List, [], ◌∷◌, ◌++◌, length, take, Some, None, Option, nat_lt, slice_index_or}
+use Rattle.std.specs.Prelude.{◌≡◌, ℕ, ◌-◌, ◌<◌, ◌≤◌, Bool, cond, not, ◌&&◌, List, [], ◌∷◌, ◌++◌, length, take, Some, None, Option, nat_lt, slice_index_or}
+use Rattle.std.specs.List.{list_any}
 use Rattle.std.specs.Str.{bytes_eq}
 use Rattle.parts.specs.Drawn.{passed, descriptions, subject, mentions, firsts}
 use Rattle.parts.specs.Text.{Bytes, words}
 use Rattle.parts.specs.declared.fault.Fault.{Fault}
 use Rattle.parts.specs.declared.fault.Fault.TheVariants.{TooManyReferences, NameTooLong, NameNotPrintable, DescribedTwice, TooManyParts}
-
-abbrev pub any : {X : Type 0} → (X → Bool) → List X → Bool
-any p [] = false
-any p (x ∷ xs) = p x || any p xs
 
 -- A name has at most 32 bytes.
 abbrev pub long : Bytes → Bool
@@ -19,7 +16,7 @@ abbrev pub printable : ℕ → Bool
 printable b = nat_lt 32 b && nat_lt b 127
 
 abbrev pub unprintable : Bytes → Bool
-unprintable w = any (λ b. not (printable b)) w
+unprintable w = list_any (λ b. not (printable b)) w
 
 -- A test, and the fault of what fails it.
 pub record Check : Type 0 where
@@ -38,9 +35,9 @@ first_fault (c ∷ cs) = cond c.fails (Some c.fault) (first_fault cs)
 abbrev pub fault_of : List (List Bytes) → List Bytes → Option Fault
 fault_of before ws = first_fault (
     check (nat_lt 5 (length ws)) TooManyReferences
-    ∷ check (any long ws) NameTooLong
-    ∷ check (any unprintable ws) NameNotPrintable
-    ∷ check (any (λ d. bytes_eq (subject d) (subject ws)) before) DescribedTwice
+    ∷ check (list_any long ws) NameTooLong
+    ∷ check (list_any unprintable ws) NameNotPrintable
+    ∷ check (list_any (λ d. bytes_eq (subject d) (subject ws)) before) DescribedTwice
     ∷ check (nat_lt 1024 (length (firsts (mentions (before ++ ws ∷ []))))) TooManyParts
     ∷ [])
 

@@ -2,14 +2,14 @@
 use Rattle.std.specs.Prelude.{◌≡◌, ℕ, ◌-◌, ◌≤◌, Bool, true, not, ◌&&◌, List, [], length, take, Some, None, count_by, Option, slice_index_or}
 use Rattle.std.specs.Str.{bytes_eq}
 use Rattle.parts.specs.Drawn.{is_edit, passed, subject}
-use Rattle.parts.specs.Faults.{any}
+use Rattle.std.specs.List.{list_any}
 use Rattle.parts.specs.Text.{Bytes, words}
 use Rattle.parts.specs.declared.lookup.LineKind.{LineKind}
 use Rattle.parts.specs.declared.lookup.LineKind.TheVariants.{Mention, Description, Edit}
 
 -- Whether a line of these words is of the kind that is sought: a description that has the name among its words, the description of the part of that name, or an edit.
 abbrev pub is_sought : LineKind → Bytes → List Bytes → Bool
-is_sought Mention name ws = not (passed ws) && any (λ w. bytes_eq w name) ws
+is_sought Mention name ws = not (passed ws) && list_any (λ w. bytes_eq w name) ws
 is_sought Description name ws = not (passed ws) && bytes_eq (subject ws) name
 is_sought Edit name ws = is_edit ws
 

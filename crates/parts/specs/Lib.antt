@@ -2,7 +2,6 @@ pub mod Text
 pub mod Drawn
 pub mod Faults
 pub mod Edits
-pub mod Separators
 pub mod Errors
 pub mod Messages
 pub mod Building

@@ -1,5 +1,6 @@
 -- How a text is cut: into lines, and a line into words.
-use Rattle.std.specs.Prelude.{ℕ, Bool, cond, ◌||◌, List, [], ◌∷◌, length, filter, ◌==◌, nat_lt}
+use Rattle.std.specs.Prelude.{ℕ, Bool, ◌||◌, List, length, filter, ◌==◌, nat_lt}
+use Rattle.std.specs.List.{slice_split}
 
 -- A text, or any piece of one.
 abbrev pub Bytes : Type 0
@@ -12,19 +13,10 @@ newline b = b == 10
 abbrev pub blank : ℕ → Bool
 blank b = b == 32 || (b == 9 || b == 13)
 
--- A byte more at the front of the first piece.
-abbrev pub onto : ℕ → List Bytes → List Bytes
-onto b [] = (b ∷ []) ∷ []
-onto b (p ∷ ps) = (b ∷ p) ∷ ps
-
--- The pieces of a text between its separators, empty ones too: one more than there are separators.
-abbrev pub pieces : (ℕ → Bool) → Bytes → List Bytes
-pieces separates [] = [] ∷ []
-pieces separates (b ∷ bs) = cond (separates b) ([] ∷ pieces separates bs) (onto b (pieces separates bs))
-
+-- The lines of a text stand between its newlines, empty ones too: there is one more than there are newlines.
 abbrev pub lines : Bytes → List Bytes
-lines = pieces newline
+lines = slice_split newline
 
 -- The words of a line are those of its pieces between blanks that are not empty.
 abbrev pub words : Bytes → List Bytes
-words line = filter (λ p. nat_lt 0 (length p)) (pieces blank line)
+words line = filter (λ p. nat_lt 0 (length p)) (slice_split blank line)

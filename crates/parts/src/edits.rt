@@ -9,7 +9,7 @@ ghost use Rattle.std.specs.List.{ContainsAt as Has};
 use crate::drawing::Drawing;
 use crate::fault::{Fault, LineError, ReadError};
 use crate::kinds::is_edit;
-use crate::text::{Separator, cut, split_words};
+use crate::text::{is_newline, split_words};
 use std::alloc::Global;
 
 // A slot, `=` and what the slot is to contain.
@@ -30,12 +30,8 @@ fn split_slot<'a>(word: &'a [u8]) -> Option<(&'a [u8], u8)>
         ((is_slot word.now ≡ false) × ((name : Bytes) (f : ℕ) → Slot word.now name f → ⊥))
         (λ p. (is_slot word.now ≡ true) × (p.0.now ≡ owner word.now) × Slot word.now p.0.now p.1) }
 {
-    let n = word.len();
-    if n < 3 || word[n - 2] != b'.' {
-        return None;
-    }
-    match word[n - 1] {
-        digit @ b'0'..=b'3' => Some((&word[0..n - 2], digit - b'0')),
+    match word {
+        [name @ .., b'.', digit @ b'0'..=b'3'] if !name.is_empty() => Some((name, digit - b'0')),
         _ => None,
     }
 }
@@ -47,10 +43,9 @@ fn new_content(drawing: &Drawing, words: &[&[u8]]) -> Option<u16>
         (λ c. (2 < length words.now → Called (known drawing.now) c (slice_index_or (bytes words.now) 2 []))
         × (length words.now ≤ 2 → c ≡ 0)) }
 {
-    if words.len() > 2 {
-        drawing.find(words[2])
-    } else {
-        Some(0)
+    match words {
+        [_, _, name, ..] => drawing.find(name),
+        _ => Some(0),
     }
 }
 
@@ -64,15 +59,9 @@ fn edit_by(drawing: &Drawing, words: &[&[u8]]) -> Result<Edit, Fault>
     if words.len() > MOST_WORDS {
         return Err(Fault::BadEdit);
     }
-    let Some((name, digit)) = split_slot(words[0]) else {
-        return Err(Fault::BadEdit);
-    };
-    let Some(part) = drawing.find(name) else {
-        return Err(Fault::UnknownPart);
-    };
-    let Some(content) = new_content(drawing, words) else {
-        return Err(Fault::UnknownPart);
-    };
+    let (name, digit) = split_slot(words[0]).ok_or(Fault::BadEdit)?;
+    let part = drawing.find(name).ok_or(Fault::UnknownPart)?;
+    let content = new_content(drawing, words).ok_or(Fault::UnknownPart)?;
     let slot = 4 * (part - 1) + u16::from(digit);
     Ok(Edit { slot, content })
 }
@@ -90,14 +79,9 @@ fn collect_line(
     if !is_edit(&words) {
         return Ok(());
     }
-    match edit_by(drawing, &words) {
-        Ok(edit) => {
-            edits.reserve(1)?;
-            edits.push_reserved(edit);
-            Ok(())
-        }
-        Err(fault) => Err(LineError::Wrong(fault)),
-    }
+    let edit = edit_by(drawing, &words)?;
+    edits.push(edit)?;
+    Ok(())
 }
 
 /// The edits that a text makes in its drawing, in order, or the first fault of one.
@@ -109,18 +93,8 @@ pub fn read_edits<'a>(
     ensures { MatchResult result (λ es. Edited (known drawing.now) (lines text.now) es.items) (Unedited (known drawing.now) (lines text.now)) }
 {
     let mut edits = Vec::new(heap);
-    let mut rest = text;
-    // Each line above ended in a byte of the text, so their count fits.
-    let mut above = 0;
-    loop {
-        let (line, more) = cut(rest, Separator::Newline);
-        if let Err(error) = collect_line(heap, drawing, line, &mut edits) {
-            return Err(error.at_line(above + 1));
-        }
-        let Some(below) = more else {
-            return Ok(edits);
-        };
-        rest = below;
-        above += 1;
+    for (above, line) in text.split(is_newline).enumerate() {
+        collect_line(heap, drawing, line, &mut edits).map_err(|error| error.at_line(above + 1))?;
     }
+    Ok(edits)
 }

@@ -2,9 +2,9 @@
 ghost use Rattle.std.specs.Prelude.{◌≡◌, Some};
 ghost use Rattle.parts.specs.Errors.{at_line};
 ghost use Rattle.parts.specs.Messages.{sentence, report};
-ghost use Rattle.parts.specs.declared.fault.LineError.TheVariants.{Memory};
+ghost use Rattle.parts.specs.declared.fault.LineError.TheVariants.{Memory, Wrong};
 
-use std::alloc::AllocError;
+use std::alloc::{AllocError, AllocFailed};
 use std::error::Error;
 use std::fmt;
 
@@ -20,11 +20,11 @@ pub enum Fault {
     UnknownPart,
 }
 
-impl Fault {
-    fn message(self) -> &'static str
-        ensures { result.now ≡ sentence self }
-    {
-        match self {
+impl fmt::Display for Fault {
+    ghost output = { λ e. Some (sentence e) };
+
+    fn fmt<W: fmt::Write>(&self, f: &mut fmt::Formatter<W>) -> fmt::Result {
+        f.write_str(match self {
             Fault::TooManyReferences => "more than four references",
             Fault::NameTooLong => "a name is longer than 32 characters",
             Fault::NameNotPrintable => "a name is not printable ASCII",
@@ -32,15 +32,7 @@ impl Fault {
             Fault::TooManyParts => "more than 1,024 parts",
             Fault::BadEdit => "an edit reads part.slot = other, with a slot from 0 to 3",
             Fault::UnknownPart => "no such part in this drawing",
-        }
-    }
-}
-
-impl fmt::Display for Fault {
-    ghost output = { λ e. Some (sentence e) };
-
-    fn fmt<W: fmt::Write>(&self, f: &mut fmt::Formatter<W>) -> fmt::Result {
-        f.write_str(self.message())
+        })
     }
 }
 
@@ -63,10 +55,26 @@ impl LineError {
     }
 }
 
+impl From<Fault> for LineError {
+    ghost from_gives = { λ f r. r ≡ Wrong f };
+
+    fn from(fault: Fault) -> LineError {
+        LineError::Wrong(fault)
+    }
+}
+
 impl From<AllocError> for LineError {
     ghost from_gives = { λ _ r. r ≡ Memory };
 
     fn from(_: AllocError) -> LineError {
+        LineError::Memory
+    }
+}
+
+impl<T: Drop> From<AllocFailed<T>> for LineError {
+    ghost from_gives = { λ _ r. r ≡ Memory };
+
+    fn from(_: AllocFailed<T>) -> LineError {
         LineError::Memory
     }
 }

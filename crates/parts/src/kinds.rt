@@ -7,20 +7,14 @@ ghost use Rattle.parts.specs.Drawn.{idle, is_edit, passed};
 fn is_idle(words: &[&[u8]]) -> bool
     ensures { result ≡ idle (bytes words.now) }
 {
-    match words {
-        [] => true,
-        [first, ..] => first.starts_with(b"#"),
-    }
+    matches!(words, [] | [[b'#', ..], ..])
 }
 
 // Whether a line of these words is an edit.
 pub(crate) fn is_edit(words: &[&[u8]]) -> bool
     ensures { result ≡ is_edit (bytes words.now) }
 {
-    if is_idle(words) || words.len() < 2 {
-        return false;
-    }
-    words[1] == b"=".as_slice()
+    !is_idle(words) && matches!(words, [_, b"=", ..])
 }
 
 // Whether a line of these words describes no part.

@@ -1,13 +1,13 @@
 //! Finding a line of a text by what it says.
 ghost use Rattle.std.specs.Prelude.{◌≡◌, IfOk};
 ghost use Rattle.parts.specs.Building.{bytes};
-ghost use Rattle.parts.specs.Faults.{any};
+ghost use Rattle.std.specs.List.{list_any};
 ghost use Rattle.parts.specs.Finds.{Finds, is_sought};
 ghost use Rattle.parts.specs.Text.{lines};
 ghost use Rattle.std.specs.Str.{bytes_eq};
 
 use crate::kinds::{is_edit, is_passed};
-use crate::text::{Separator, cut, split_words};
+use crate::text::{is_newline, split_words};
 use std::alloc::{AllocError, Global};
 
 /// A kind of line.
@@ -21,26 +21,14 @@ pub enum LineKind {
     Edit,
 }
 
-// Whether one of the words is this name.
-fn has_name(words: &[&[u8]], name: &[u8]) -> bool
-    ensures { result ≡ any (λ w. bytes_eq w name.now) (bytes words.now) }
-{
-    for word in words {
-        if *word == name {
-            return true;
-        }
-    }
-    false
-}
-
 impl LineKind {
     // Whether a line of these words is of this kind, for the part of this name.
     fn is(self, name: &[u8], words: &[&[u8]]) -> bool
         ensures { result ≡ is_sought self name.now (bytes words.now) }
     {
         match self {
-            LineKind::Mention => !is_passed(words) && has_name(words, name),
-            LineKind::Description => !is_passed(words) && words[0] == name,
+            LineKind::Mention => !is_passed(words) && words.contains(&name),
+            LineKind::Description => !is_passed(words) && words.first() == Some(&name),
             LineKind::Edit => is_edit(words),
         }
     }
@@ -56,12 +44,8 @@ pub fn find_line(
 ) -> Result<Option<usize>, AllocError>
     ensures { IfOk result (Finds kind name.now (lines text.now) skip) }
 {
-    let mut rest = text;
-    // Each line above ended in a byte of the text, so their count fits.
-    let mut above = 0;
     let mut to_pass = skip;
-    loop {
-        let (line, more) = cut(rest, Separator::Newline);
+    for (above, line) in text.split(is_newline).enumerate() {
         let words = split_words(heap, line)?;
         if kind.is(name, &words) {
             if to_pass == 0 {
@@ -69,10 +53,6 @@ pub fn find_line(
             }
             to_pass -= 1;
         }
-        let Some(below) = more else {
-            return Ok(None);
-        };
-        rest = below;
-        above += 1;
     }
+    Ok(None)
 }

@@ -1,6 +1,6 @@
 //! Which words may describe a part, whatever the drawing.
-ghost use Rattle.std.specs.Prelude.{◌≡◌, not};
-ghost use Rattle.parts.specs.Faults.{any, long, unprintable};
+ghost use Rattle.std.specs.Prelude.{◌≡◌, None, Some, MatchResult};
+ghost use Rattle.parts.specs.Faults.{unprintable};
 ghost use Rattle.parts.specs.Building.{bytes, fault_in};
 
 use crate::fault::Fault;
@@ -10,50 +10,25 @@ const MOST_WORDS: usize = 5;
 
 const LONGEST_NAME: usize = 32;
 
-// What is wrong with the words of a description by themselves.
-pub(crate) fn fault_in(words: &[&[u8]]) -> Option<Fault>
-    ensures { result ≡ fault_in (bytes words.now) }
+// Refuses the words of a description for what is wrong with them by themselves.
+pub(crate) fn check(words: &[&[u8]]) -> Result<(), Fault>
+    ensures { MatchResult result (λ _. fault_in (bytes words.now) ≡ None) (λ f. fault_in (bytes words.now) ≡ Some f) }
 {
     if words.len() > MOST_WORDS {
-        Some(Fault::TooManyReferences)
-    } else if any_long(words) {
-        Some(Fault::NameTooLong)
-    } else if any_unprintable(words) {
-        Some(Fault::NameNotPrintable)
-    } else {
-        None
+        return Err(Fault::TooManyReferences);
     }
+    if words.iter().any(|name| name.len() > LONGEST_NAME) {
+        return Err(Fault::NameTooLong);
+    }
+    if words.iter().any(|name| is_unprintable(name)) {
+        return Err(Fault::NameNotPrintable);
+    }
+    Ok(())
 }
 
-fn any_long(names: &[&[u8]]) -> bool
-    ensures { result ≡ any long (bytes names.now) }
+// Whether a byte of the name is not printable ASCII.
+fn is_unprintable(name: &[u8]) -> bool
+    ensures { result ≡ unprintable name.now }
 {
-    for name in names {
-        if name.len() > LONGEST_NAME {
-            return true;
-        }
-    }
-    false
-}
-
-fn any_unprintable(names: &[&[u8]]) -> bool
-    ensures { result ≡ any unprintable (bytes names.now) }
-{
-    for name in names {
-        if !is_printable(name) {
-            return true;
-        }
-    }
-    false
-}
-
-fn is_printable(name: &[u8]) -> bool
-    ensures { result ≡ not (unprintable name.now) }
-{
-    for byte in name {
-        if !byte.is_ascii_graphic() {
-            return false;
-        }
-    }
-    true
+    name.iter().any(|byte| !byte.is_ascii_graphic())
 }

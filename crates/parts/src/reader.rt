@@ -7,7 +7,7 @@ ghost use Rattle.parts.specs.Text.{Bytes};
 use crate::drawing::Drawing;
 use crate::fault::{LineError, ReadError};
 use crate::kinds::is_passed;
-use crate::text::{Separator, cut, split_words};
+use crate::text::{is_newline, split_words};
 use std::alloc::Global;
 
 // Takes one more line into the drawing.
@@ -26,18 +26,8 @@ pub fn read<'a>(heap: Global, text: &'a [u8]) -> Result<Drawing<'a>, ReadError>
     ensures { Reads text.now result }
 {
     let mut drawing = Drawing::new(heap);
-    let mut rest = text;
-    // Each line above ended in a byte of the text, so their count fits.
-    let mut above = 0;
-    loop {
-        let (line, more) = cut(rest, Separator::Newline);
-        if let Err(error) = read_line(heap, &mut drawing, line) {
-            return Err(error.at_line(above + 1));
-        }
-        let Some(below) = more else {
-            return Ok(drawing);
-        };
-        rest = below;
-        above += 1;
+    for (above, line) in text.split(is_newline).enumerate() {
+        read_line(heap, &mut drawing, line).map_err(|error| error.at_line(above + 1))?;
     }
+    Ok(drawing)
 }

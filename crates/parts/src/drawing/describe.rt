@@ -31,9 +31,7 @@ impl<'a> Drawing<'a> {
         requires some { 0 < length words.now }
         ensures { (ds : List (List Bytes)) → Building ds self.old → Described ds (bytes words.now) self.new result }
     {
-        if let Some(fault) = names::fault_in(words) {
-            return Err(LineError::Wrong(fault));
-        }
+        names::check(words)?;
         let part = self.subject(words[0])?;
         self.place(part, &words[1..])?;
         self.described[usize::from(part) - 1] = true;
@@ -60,11 +58,9 @@ impl<'a> Drawing<'a> {
     fn subject(&mut self, name: &'a [u8]) -> Result<u16, LineError>
         ensures { MatchResult result (λ c. Numbered name.now self.old self.new c × (mark self.new c ≡ false)) (Unfit name.now self.old) }
     {
-        let Some(part) = self.find(name) else {
-            return self.add(name);
-        };
+        let part = self.number(name)?;
         if self.described[usize::from(part) - 1] {
-            return Err(LineError::Wrong(Fault::DescribedTwice));
+            return Err(Fault::DescribedTwice.into());
         }
         Ok(part)
     }
@@ -73,6 +69,7 @@ impl<'a> Drawing<'a> {
     fn number(&mut self, name: &'a [u8]) -> Result<u16, LineError>
         ensures { MatchResult result (λ c. Numbered name.now self.old self.new c) (Crowded (name.now ∷ []) self.old) }
     {
+        // Plainer than `map_or_else`, whose closure would hide that a part is added.
         match self.find(name) {
             Some(part) => Ok(part),
             None => self.add(name),
@@ -83,12 +80,8 @@ impl<'a> Drawing<'a> {
     pub(crate) fn find(&self, name: &[u8]) -> Option<u16>
         ensures { MatchOption result (Has (known self.now) name.now → ⊥) (λ c. Called (known self.now) c name.now) }
     {
-        for (i, other) in self.names.iter().enumerate() {
-            if *other == name {
-                return Some(i as u16 + 1);
-            }
-        }
-        None
+        let place = self.names.iter().position(|other| *other == name)?;
+        Some(place as u16 + 1)
     }
 
     // A new part, with its number.
@@ -97,7 +90,7 @@ impl<'a> Drawing<'a> {
         ensures { MatchResult result (λ c. Numbered name.now self.old self.new c × (mark self.new c ≡ false)) (Crowded (name.now ∷ []) self.old) }
     {
         if self.names.len() == MOST_PARTS {
-            return Err(LineError::Wrong(Fault::TooManyParts));
+            return Err(Fault::TooManyParts.into());
         }
         // Memory first, so that the part is new in all three or in none.
         self.names.reserve(1)?;

@@ -11,7 +11,8 @@ module _ (names : List Bytes) (w v : Bytes) (n : ℕ) (same : v ≡ w) (third : 
   by-third None none = (third, λ h. none (subst (Has names) same h))
   by-third (Some c) called = (λ _. subst (Called names c) (sym same) called, λ short. absurd (omega arith))
 
-pub returns-then-words-gt2 : goal.returns-then-words-gt2
-returns-then-words-gt2 c =
+pub returns-in-len3-up : goal.returns-in-len3-up
+returns-in-len3-up c =
     let words = c.args.words.now in
-    by-third (known c.args.drawing.now) _ _ (length words) (get_or-map (λ w. w.now) words 2 _ [] c.if-words-gt2.true) c.if-words-gt2.true c.find.result c.find.ensures
+    let third : 2 < length words = omega arith in
+    by-third (known c.args.drawing.now) _ _ (length words) (get_or-map (λ w. w.now) words 2 _ [] third) third c.find.result c.find.ensures

@@ -1,38 +1,41 @@
-use Rattle.std.proofs.Common.{map, sym, ap, ◌∙◌, subst, inl, inr, arith}
-use Rattle.parts.proofs.Finding.{Passed, stopped, one_more, all_done}
+use Rattle.std.proofs.Common.{◌≡◌, ◌+◌, ◌∷◌, ◌++◌, [], length, sym, ap, ◌∙◌, inl, inr, rules, tests, arith}
+use Rattle.std.proofs.lemmas.List.{length_push}
+use Rattle.parts.specs.Building.{bytes}
 use Rattle.parts.specs.Finds.{is_sought}
-use Rattle.parts.specs.Separators.{Cut}
-use Rattle.parts.specs.Text.{newline}
+use Rattle.parts.specs.Text.{lines, words}
+use Rattle.parts.proofs.Finding.{Passed, stopped, one_more, all_done}
+use Rattle.parts.proofs.Turns.{IsLine, turn, ended}
 use Rattle.parts.proofs.lookup.find_line.Goals as goal
-use Rattle.parts.proofs.lookup.find_line.Goals.{then-is+else-to_pass-eq0, else-is}
+use Rattle.parts.proofs.lookup.find_line.Goals.{After-is, then-is+else-to_pass-eq0, else-is}
+
+here : (c : After-is) → (c.in-Some.above ≡ length c.loop-above.yielded) × IsLine (lines c.args.text.now) (length c.loop-above.yielded) c.in-Some.line.now
+here c =
+    turn {s = c.split.result} _ c.args.text.now c.split.ensures.rest c.split.ensures.done c.split.ensures.closure (cc) (cc) (λ x b q k. search (rules, tests)) c.loop-above.yielded _ _ c.loop-above.yielded_by
+    c.next.result c.next.ensures.steps c.in-Some.above c.in-Some.line c.in-Some.is
+
+sought : (c : After-is) → c.is.result ≡ is_sought c.args.kind c.args.name.now (words c.in-Some.line.now)
+sought c = c.is.ensures ∙ ap (is_sought c.args.kind c.args.name.now) (ap bytes c.deref.ensures.value ∙ c.in_ok-words.ensures)
 
 pub returns-then-to_pass-eq0 : goal.returns-then-to_pass-eq0
 returns-then-to_pass-eq0 c =
-    let kind = c.args.kind in
-    let name = c.args.name.now in
-    let same = ap (map (λ w. w.now)) c.deref.ensures.value ∙ c.in_ok-words.ensures in
-    stopped kind name c.args.text.now _ _ _ _ _ c.loop-words.invariant _ c.cut.ensures (sym (c.if-is.ensures ∙ ap (is_sought kind name) same)) c.if-to_pass-eq0.true
+    let at = (goal.at.returns-then-to_pass-eq0 c).After-is in
+    let line = here at in
+    rw line.0 (stopped c.args.kind c.args.name.now c.args.text.now c.in-Some.line.now _ c.args.skip c.loop-above.to_pass c.loop-above.invariant line.1 (sym (sought at) ∙ c.if-is.true) c.if-to_pass-eq0.true)
 
-pub returns-in_default : goal.returns-in_default
-returns-in_default c =
-    let kind = c.args.kind in
-    let name = c.args.name.now in
-    let same = ap (map (λ w. w.now)) c.deref.ensures.value ∙ c.in_ok-words.ensures in
-    let gone : Passed kind name c.cut.result.0.now c.loop-words.to_pass c.if-is.to_pass =
+pub loop-above-preserved : goal.loop-above-preserved
+loop-above-preserved c =
+    let at = (goal.at.loop-above-preserved c).After-is in
+    let gone : Passed c.args.kind c.args.name.now c.in-Some.line.now c.loop-above.to_pass c.if-is.to_pass =
     elim c.if-is.branch [
-      | then-is+else-to_pass-eq0 w ↦ inl (sym (w.if-is.ensures ∙ ap (is_sought kind name) same), omega arith, w.to_pass-is)
-      | else-is w ↦ inr (sym (w.if-is.ensures ∙ ap (is_sought kind name) same), w.to_pass-is)
+      | then-is+else-to_pass-eq0 w ↦ inl (sym (sought at) ∙ w.if-is.true, omega arith, w.to_pass-is)
+      | else-is w ↦ inr (sym (sought at) ∙ w.if-is.false, w.to_pass-is)
     ] in
-    all_done kind name c.args.text.now _ _ _ _ _ c.loop-words.invariant _ gone (subst (Cut newline _ _) c.in_default.is c.cut.ensures)
+    let n : length (c.loop-above.yielded ++ (c.in-Some.above, c.in-Some.line) ∷ []) ≡ length c.loop-above.yielded + 1 = length_push _ _ in
+    rw n (one_more c.args.kind c.args.name.now c.args.text.now c.in-Some.line.now _ c.args.skip c.loop-above.to_pass c.loop-above.invariant (here at).1 c.if-is.to_pass gone)
 
-pub loop-words-preserved : goal.loop-words-preserved
-loop-words-preserved c =
-    let kind = c.args.kind in
-    let name = c.args.name.now in
-    let same = ap (map (λ w. w.now)) c.deref.ensures.value ∙ c.in_ok-words.ensures in
-    let gone : Passed kind name c.cut.result.0.now c.loop-words.to_pass c.if-is.to_pass =
-    elim c.if-is.branch [
-      | then-is+else-to_pass-eq0 w ↦ inl (sym (w.if-is.ensures ∙ ap (is_sought kind name) same), omega arith, w.to_pass-is)
-      | else-is w ↦ inr (sym (w.if-is.ensures ∙ ap (is_sought kind name) same), w.to_pass-is)
-    ] in
-    one_more kind name c.args.text.now _ _ _ _ _ c.loop-words.invariant c.in-Some.below.now _ gone (subst (Cut newline _ _) c.in-Some.is c.cut.ensures)
+pub returns : goal.returns
+returns c =
+    all_done c.args.kind c.args.name.now c.args.text.now _ c.args.skip c.loop-above.to_pass
+    (ended {s = c.split.result} _ c.args.text.now c.split.ensures.rest c.split.ensures.done c.split.ensures.closure (cc) (cc) (λ x b q k. search (rules, tests)) c.loop-above.yielded _ _ c.loop-above.yielded_by
+    c.next.result c.next.ensures.steps c.in-None.is)
+    c.loop-above.invariant

@@ -1,6 +1,6 @@
-use Rattle.std.proofs.Common.{◌+◌, false, [], ◌∷◌, ◌++◌, length, vec_items, count_by, sym, refl, ap, ◌∙◌, arith}
+use Rattle.std.proofs.Common.{◌+◌, false, [], ◌∷◌, ◌++◌, length, vec_items, count_by, sym, refl, ap, ◌∙◌, subst, arith}
 use Rattle.std.proofs.lemmas.List.{length_push}
-use Rattle.parts.specs.Building.{known}
+use Rattle.parts.specs.Building.{known, Crowded}
 use Rattle.parts.proofs.Firsts.{added_new}
 use Rattle.parts.proofs.Growing.{parts, count_unmarked, numbered_new}
 use Rattle.parts.proofs.drawing.Drawing.add.Goals as goal
@@ -9,7 +9,7 @@ pub returns-then-len-eq-MOST_PARTS : goal.returns-then-len-eq-MOST_PARTS
 returns-then-len-eq-MOST_PARTS c =
     let names = known c.args.self.now in
     let long = ap length (added_new names c.args.name.now c.requires) ∙ length_push names c.args.name.now in
-    (refl, omega (arith, long, parts c.args.self.now, c.len.ensures, c.if-len-eq-MOST_PARTS.true))
+    subst (Crowded (c.args.name.now ∷ []) c.args.self.now) (sym c.into.ensures) (refl, omega (arith, long, parts c.args.self.now, c.len.ensures, c.if-len-eq-MOST_PARTS.true))
 
 pub invariant_of-self-2 : goal.invariant_of-self-2
 invariant_of-self-2 c =

@@ -18,23 +18,23 @@ split : (words : List (Bor (List ℕ))) (d : Bor (List ℕ)) → 0 < length word
 split [] d h = absurd (omega arith)
 split (w ∷ words) d h = ap (λ l. w.now ∷ bytes l) (sym (take_rest (w ∷ words) 1))
 
-few : (words : List (Bor (List ℕ))) → None ≡ fault_in (bytes words) → length words ≤ 5
-few words e = omega (arith, ltb-false 5 (length (bytes words)) (passes (bytes words) (sym e)).0, length-map words (λ w. w.now))
+few : (words : List (Bor (List ℕ))) → fault_in (bytes words) ≡ None → length words ≤ 5
+few words e = omega (arith, ltb-false 5 (length (bytes words)) (passes (bytes words) e).0, length-map words (λ w. w.now))
 
 long : (words : List (Bor (List ℕ))) → length (rest words) ≡ length words - 1
 long words = length-map (take (length words - 1) (drop 1 words)) (λ w. w.now) ∙ ap length (take_rest words 1) ∙ length-drop 1 words
 
-fine : (words : List (Bor (List ℕ))) (d : Bor (List ℕ)) → 0 < length words → None ≡ fault_in (bytes words) → fault_in ((get_or words 0 d).now ∷ rest words) ≡ None
-fine words d h e = subst (λ l. fault_in l ≡ None) (split words d h) (sym e)
+fine : (words : List (Bor (List ℕ))) (d : Bor (List ℕ)) → 0 < length words → fault_in (bytes words) ≡ None → fault_in ((get_or words 0 d).now ∷ rest words) ≡ None
+fine words d h e = subst (λ l. fault_in l ≡ None) (split words d h) e
 
 pub returns-in_err-part : goal.returns-in_err-part
 returns-in_err-part c ds b =
-    let p = err_from_is_err_and c.from_residual.result c.from_residual.ensures.1 in
+    let p = err_from_is_err_and c.from_residual-in_err-part.result c.from_residual-in_err-part.ensures.1 in
     let words = c.args.words.now in
     let e = c.in_err-part.field-0.0 in
     rw (p.1, p.2)
     (described_as ds _ _ c.subject.new.self (Err e) (split words _ c.requires.some)
-    (described_unfit b _ (rest words) (fine words _ c.requires.some c.in_default.ensures) c.subject.new.self e c.in_err-part.ensures))
+    (described_unfit b _ (rest words) (fine words _ c.requires.some c.in_ok-check.ensures) c.subject.new.self e c.in_err-part.ensures))
 
 pub place-requires : goal.place-requires
 place-requires c =
@@ -42,7 +42,7 @@ place-requires c =
     let is = c.in_ok-part.ensures.0.called in
     record {
       is_part = (is.0, is.1);
-      fits = omega (arith, few words c.in_default.ensures, ap length (take_rest words 1), length-drop 1 words);
+      fits = omega (arith, few words c.in_ok-check.ensures, ap length (take_rest words 1), length-drop 1 words);
     }
 
 pub returns-in_err-place : goal.returns-in_err-place
@@ -53,7 +53,7 @@ returns-in_err-place c ds b =
     let num = c.in_ok-part.ensures in
     rw (p.1, p.2)
     (described_as ds _ _ c.place.new.self (Err e) (split words _ c.requires.some)
-    (described_crowded b num.0 num.1 (rest words) (fine words _ c.requires.some c.in_default.ensures) c.place.new.self e c.in_err-place.ensures))
+    (described_crowded b num.0 num.1 (rest words) (fine words _ c.requires.some c.in_ok-check.ensures) c.place.new.self e c.in_err-place.ensures))
 
 pub index_mut-requires : goal.index_mut-requires
 index_mut-requires c =
@@ -65,7 +65,7 @@ pub overflow_add-self : goal.overflow_add-self
 overflow_add-self c = omega (arith, few_lines c.place.new.self)
 
 pub overflow_add-self-2 : goal.overflow_add-self-2
-overflow_add-self-2 c = omega (arith, few_lines c.place.new.self, c.place.new.self.bounded, few c.args.words.now c.in_default.ensures)
+overflow_add-self-2 c = omega (arith, few_lines c.place.new.self, c.place.new.self.bounded, few c.args.words.now c.in_ok-check.ensures)
 
 pub invariant_of-self : goal.invariant_of-self
 invariant_of-self c =
@@ -80,7 +80,7 @@ invariant_of-self c =
       marked = full.marked;
       few = full.few;
       counted = count_marked full part c.from.result c.from.ensures is.0 is.1 unmarked;
-      bounded = omega (arith, full.bounded, few c.args.words.now c.in_default.ensures);
+      bounded = omega (arith, full.bounded, few c.args.words.now c.in_ok-check.ensures);
     }
 
 pub returns : goal.returns
@@ -89,7 +89,7 @@ returns c ds b =
     let full = c.place.new.self in
     let num = c.in_ok-part.ensures in
     described_as ds _ _ _ (Ok tt) (split words _ c.requires.some)
-    (described_done b num.0 num.1 (rest words) (fine words _ c.requires.some c.in_default.ensures) c.in_ok-place.ensures
+    (described_done b num.0 num.1 (rest words) (fine words _ c.requires.some c.in_ok-check.ensures) c.in_ok-place.ensures
     (record {
       names = refl;
       slots = refl;
@@ -97,4 +97,4 @@ returns c ds b =
       lined = refl;
       referred = ap (λ n. full.references + n) (sym (long words));
     })
-    (omega (arith, few words c.in_default.ensures, long words)))
+    (omega (arith, few words c.in_ok-check.ensures, long words)))

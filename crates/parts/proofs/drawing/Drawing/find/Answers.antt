@@ -1,33 +1,29 @@
-use Rattle.std.proofs.Common.{◌≡◌, ℕ, ◌+◌, ◌-◌, ◌<◌, List, [], length, get_or, sym, ap, ◌∙◌, subst, arith, Bor, below_more}
-use lib.ListN.{length-map}
-use Rattle.std.proofs.lemmas.Slice.Eq.{slice_eq-Decides}
-use Rattle.std.proofs.lemmas.List.{get_or-map}
-use Rattle.std.proofs.lemmas.Bool.Decides.{not_from_Decides, Decides-eqb}
-use Rattle.parts.specs.Building.{bytes, known}
+use Rattle.std.proofs.Common.{◌≡◌, ℕ, ◌<◌, List, length, None, vec_items, subst, arith, Bor, rules, tests, MatchOption}
+use Rattle.std.specs.List.{AllWithin, HoldsAt}
+use Rattle.std.proofs.lemmas.Iterator.{YieldsList-from_slice, IsFirst-from_position}
+use Rattle.std.proofs.lemmas.Option.{MatchOption-at_some, MatchOption-at_none}
+use Rattle.parts.specs.Text.{Bytes}
+use Rattle.parts.proofs.Growing.{called_place, no_place}
 use Rattle.parts.proofs.drawing.Drawing.find.Goals as goal
+use Rattle.parts.proofs.drawing.Drawing.find.Goals.{After-position}
 
-named : (shown names : List (Bor (List ℕ))) → shown ≡ names → (k : ℕ) (d : Bor (List ℕ)) → k < length shown → get_or (bytes names) k [] ≡ (get_or shown k d).now
-named shown names e k d h = subst (λ l. get_or (bytes l) k [] ≡ (get_or shown k d).now) e (get_or-map (λ w. w.now) shown k d [] h)
+abbrev Absent : Bytes → List (Bor Bytes) → Type 0
+Absent w names = AllWithin (λ v. v.now ≡ w → ⊥) names 0 (length names)
 
-many : (shown names : List (Bor (List ℕ))) → shown ≡ names → length (bytes names) ≡ length shown
-many shown names e = length-map names (λ w. w.now) ∙ ap length (sym e)
+abbrev First : Bytes → List (Bor Bytes) → ℕ → Type 0
+First w names i = (i < length names) × HoldsAt (λ v. v.now ≡ w) names i × AllWithin (λ v. v.now ≡ w → ⊥) names 0 i
 
-pub returns-then-eq : goal.returns-then-eq
-returns-then-eq c =
-    let e = c.deref-other-items.ensures.value in
-    let i = c.loop-i.i in
-    let back : i + 1 - 1 ≡ i = omega arith in (
-      omega arith,
-      omega (arith, many _ _ e, c.loop-i-test.true),
-      ap (λ k. get_or (known c.args.self.now) k []) back ∙ named _ _ e i _ c.loop-i-test.true ∙ (slice_eq-Decides Decides-eqb _ _ _ c.eq.ensures).0 c.if-eq.true,
-    )
+placed : (c : After-position) → MatchOption c.position.result (Absent c.args.name.now (vec_items c.args.self.now.names)) (First c.args.name.now (vec_items c.args.self.now.names))
+placed c =
+    subst (λ (l : List (Bor Bytes)). MatchOption c.position.result (Absent c.args.name.now l) (First c.args.name.now l)) c.deref.ensures.value
+    (IsFirst-from_position _ _ c.position.result (λ w. w.now ≡ c.args.name.now) (λ w. w.now ≡ c.args.name.now → ⊥) c.position.ensures.ran (YieldsList-from_slice c.deref.result.now cc) (λ x q k. search (rules, tests)) (λ x q k. search (rules, tests)))
 
-pub loop-i-preserved : goal.loop-i-preserved
-loop-i-preserved c =
-    below_more _ _ c.loop-i.invariant
-    (λ q. not_from_Decides _ (slice_eq-Decides Decides-eqb _ _ _ c.eq.ensures) c.if-eq.false (sym (named _ _ c.deref-other-items.ensures.value c.loop-i.i _ c.loop-i-test.true) ∙ q))
+pub returns-in_err-place : goal.returns-in_err-place
+returns-in_err-place c =
+    let none : c.position.result ≡ None = grind arith in
+    rw c.from_residual.ensures (no_place _ _ (MatchOption-at_none (Absent c.args.name.now (vec_items c.args.self.now.names)) _ none (placed (goal.at.returns-in_err-place c).After-position)))
 
 pub returns : goal.returns
-returns c h =
-    let long = many _ _ c.deref-other-items.ensures.value in
-    c.loop-i.invariant h.0 (omega (arith, h.1, long, c.loop-i-test.false)) (h.2 [])
+returns c =
+    let at = MatchOption-at_some _ (First c.args.name.now (vec_items c.args.self.now.names)) _ c.in_ok-place.was (placed (goal.at.returns c).After-position) in
+    called_place _ _ _ at.0 at.1

@@ -1,21 +1,11 @@
-use Rattle.std.proofs.Common.{◌≡◌, refl, ◌∙◌, inl, arith}
-use Rattle.parts.specs.Building.{mark}
-use Rattle.parts.proofs.Growing.{parts, mark_read, numbered_known}
+use Rattle.std.proofs.Common.{refl, sym, ◌∙◌, subst, inl}
+use Rattle.parts.specs.Building.{Unfit}
+use Rattle.parts.proofs.Growing.{mark_read, marked_known}
 use Rattle.parts.proofs.drawing.Drawing.subject.Goals as goal
-use Rattle.parts.proofs.drawing.Drawing.subject.Goals.{After-index}
-
-read : (c : After-index) → mark c.args.self.now c.in-Some.part ≡ c.index.result.now
-read c = let is = c.in-Some.ensures in mark_read c.args.self.now c.in-Some.part c.from.result _ c.from.ensures is.0 is.1 c.index.ensures
-
-pub index-requires : goal.index-requires
-index-requires c =
-    let self = c.args.self.now in
-    let is = c.in-Some.ensures in
-    omega (arith, c.from.ensures, is.0, is.1, parts self, self.marked)
 
 pub returns-then-index : goal.returns-then-index
 returns-then-index c =
-    inl (refl, (c.in-Some.part, c.in-Some.ensures, read (goal.at.returns-then-index c).After-index ∙ c.if-index.true))
-
-pub returns : goal.returns
-returns c = (numbered_known _ _ _ c.in-Some.ensures, read (goal.at.returns c).After-index ∙ c.if-index.false)
+    let num = c.in_ok-part.ensures in
+    let read = mark_read c.number.new.self c.in_ok-part.part c.from.result _ c.from.ensures num.called.0 num.called.1 c.index.ensures in
+    let was = marked_known _ _ c.number.new.self _ num (read ∙ c.if-index.true) in
+    subst (Unfit c.args.name.now c.args.self.now) (sym c.into.ensures) (inl (refl, (c.in_ok-part.part, was.0, was.1)))
