@@ -1,13 +1,13 @@
 -- A ledger that follows a table. Assumes nothing.
-use Rattle.std.proofs.Common.{◌≡◌, ℕ, ◌+◌, ◌-◌, ◌*◌, ◌<◌, ◌≤◌, ◌≢◌, ◌⊎◌, ◌↔◌, List, [], ◌∷◌, ◌++◌, length, get_or, take, set, Some, None, vec_items, Option, sym, refl, ap, ◌∙◌, subst, ⊎_elim, arith}
-use Rattle.ledgers.specs.Answers.{IsFirstZero, Numbered}
+use Rattle.std.proofs.Common.{◌≡◌, ℕ, ◌+◌, ◌-◌, ◌*◌, ◌<◌, ◌≤◌, ◌≢◌, ◌↔◌, List, [], ◌∷◌, ◌++◌, length, get_or, take, set, Some, None, vec_items, sym, refl, ap, ◌∙◌, subst, ⊎_elim, arith}
+use Rattle.ledgers.specs.Answers.{IsFirstZero}
 use Rattle.ledgers.specs.Meaning.{Ops, Lawful, Settled}
-use Rattle.ledgers.specs.Tables.{Cell, Table}
-use Rattle.replay.specs.Replays.{BadContent, BadEdit, Follows, Kept, Proper, Replays, ToldNumbers, ZerosListed, edited, no_edit}
+use Rattle.ledgers.specs.Tables.{Cell}
+use Rattle.replay.specs.Replays.{Follows, Kept, Replays, ZerosListed, edited}
 use Rattle.parts.specs.declared.edits.Edit.{Edit}
 use Rattle.replay.specs.declared.replay.Replayed.{Replayed}
-use Rattle.std.proofs.ByRecursion.{All-get_or, has_append_left, has_push, has_push_cases}
-use Rattle.std.proofs.lemmas.List.{get_or_append_left, get_or_push, length_push, take_more}
+use Rattle.std.proofs.ByRecursion.{has_append_left, has_push, has_push_cases}
+use Rattle.std.proofs.lemmas.List.{take_more}
 use Rattle.std.proofs.lemmas.Bool.{cases_lt}
 use Rattle.std.specs.List.{ContainsAt as Has}
 
@@ -61,26 +61,6 @@ module _ {L : Type 0} {o : Ops L} (p : Lawful o) where
       told : (c : ℕ) → Cell n c → get_or (vec_items r.numbers) (c - 1) None ≡ o.tells l c
       told = replays.numbers.told
 
--- what the ledger answered is what it tells
-pub told_numbers : {L : Type 0} (o : Ops L) {n : ℕ} {l : L} (numbers : List (Option ℕ)) → length numbers ≡ n → o.cells l ≡ n → Settled o l → ((k : ℕ) → k < length numbers → Numbered o l (k + 1) (get_or numbers k None)) → ToldNumbers o n l numbers
-told_numbers o {n} {l} numbers size cells quiet answers = record {
-  size = size;
-  told = λ c cell.
-      let back : c - 1 + 1 ≡ c = omega (arith, cell.0) in
-      let answer = answers (c - 1) (omega (arith, cell.0, cell.1, size)) in
-      subst (λ (k : ℕ). get_or numbers (c - 1) None ≡ o.tells l k) back
-      (answer.told quiet (subst (Cell (o.cells l)) (sym back) (cell.0, omega (arith, cells, cell.1))));
-}
-
-pub numbered_more : {L : Type 0} {o : Ops L} {l : L} (numbers : List (Option ℕ)) (x : Option ℕ) (n : ℕ) → length numbers ≡ n → Numbered o l (n + 1) x → ((k : ℕ) → k < length numbers → Numbered o l (k + 1) (get_or numbers k None)) → (k : ℕ) → k < length (numbers ++ x ∷ []) → Numbered o l (k + 1) (get_or (numbers ++ x ∷ []) k None)
-numbered_more {o = o} {l} numbers x n size last before k lt =
-    ⊎_elim
-    (λ (old : k < length numbers). subst (Numbered o l (k + 1)) (sym (get_or_append_left numbers (x ∷ []) None k old)) (before k old))
-    (λ (past : length numbers ≤ k).
-    let e : length numbers ≡ k = omega (arith, length_push numbers x) in
-    subst (Numbered o l (k + 1)) (sym (get_or_push numbers x None k e)) (subst (λ (j : ℕ). Numbered o l (j + 1) x) (sym size ∙ e) last))
-    (cases_lt k (length numbers))
-
 module _ {L : Type 0} (o : Ops L) (n from : ℕ) (l : L) (zeros : List ℕ) (cells : o.cells l ≡ n) (listed : ListedBelow o n l from zeros) where
   -- one cell more is told 0
   pub listed_more : (d : ℕ) → IsFirstZero o l from d → ListedBelow o n l (d + 1) (zeros ++ d ∷ [])
@@ -114,20 +94,3 @@ edited_push t (x ∷ es) e = edited_push (set t x.slot x.content) es e
 
 pub edited_more : (t : List ℕ) (es : List Edit) (i : ℕ) (d : Edit) → i < length es → edited t (take (i + 1) es) ≡ set (edited t (take i es)) (get_or es i d).slot (get_or es i d).content
 edited_more t es i d lt = ap (edited t) (take_more es i d lt) ∙ edited_push t (take i es) (get_or es i d)
-
-content_past : (n s : ℕ) (t : List ℕ) → Table n t → n < get_or t s 0 → ⊥
-content_past n s t table past = omega (arith, table.contents s)
-
-same_cells : {m n : ℕ} {t : List ℕ} → Table m t → length t ≡ 4 * n → m ≡ n
-same_cells table long = omega (arith, table.size)
-
--- a table that was refused is none, or its edits are out of range
-pub not_proper : (n : ℕ) (slots : List ℕ) (edits : List Edit) → length slots ≡ 4 * n → BadContent n slots ⊎ BadEdit n (length slots) edits → Proper slots edits → ⊥
-not_proper n slots edits long bad proper =
-    let table : Table n slots = subst (λ (k : ℕ). Table k slots) (same_cells proper.1 long) proper.1 in
-    ⊎_elim
-    (λ (content : BadContent n slots). content_past n content.0 slots table content.1)
-    (λ (edit : BadEdit n (length slots) edits).
-    let good = All-get_or (λ e. (e.slot < length slots) × (e.content ≤ proper.0)) edits edit.0 no_edit edit.1 proper.2 in
-    edit.2 good.0 (subst (λ (k : ℕ). (get_or edits edit.0 no_edit).content ≤ k) (same_cells proper.1 long) good.1))
-    bad

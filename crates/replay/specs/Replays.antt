@@ -34,6 +34,10 @@ module _ {L : Type 0} (o : Ops L) where
     pub cells : o.cells l ≡ n
     pub agrees : o.Agrees l t
 
+  -- If the ledger followed the one table, it follows the other now.
+  abbrev pub KeepsUp : ℕ → List ℕ → List ℕ → L → L → Type 0
+  KeepsUp n t t' l l' = Follows n t l → Follows n t' l'
+
   -- What the ledger tells of each cell.
   pub record ToldNumbers (n : ℕ) (l : L) (numbers : List (Option ℕ)) : Type 0 where
     pub size : length numbers ≡ n

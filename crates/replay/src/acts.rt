@@ -1,10 +1,10 @@
 //! Replaying: each slot's content is a note, and so is each edit.
-ghost use Rattle.std.specs.Prelude.{◌≡◌, ℕ, ◌*◌, ◌<◌, ◌≤◌, ◌⊎◌, List, map, length, IfOk, Ok, Err, slice_set};
+ghost use Rattle.std.specs.Prelude.{◌≡◌, IfOk};
 ghost use Rattle.ledgers.specs.Meaning.{Settled};
-ghost use Rattle.replay.specs.Replays.{BadContent, BadEdit, Followed, Follows, Kept, Replaying, ToldNumbers, SomeTable, ZerosListed, edited};
-ghost use Rattle.replay.specs.declared.replay.ReplayError.TheVariants.{OutOfRange};
+ghost use Rattle.replay.specs.Replays.{Followed, Kept, Replaying, ToldNumbers, SomeTable, ZerosListed};
 
 use super::replay::{ReplayError, Replayed};
+use super::table::Table;
 use ledgers::Ledger;
 use parts::Edit;
 use std::alloc::{AllocError, Global};
@@ -50,95 +50,21 @@ fn follow<L: Ledger>(
     if slots.len() > MOST_SLOTS {
         return Err(ReplayError::TooManyCells);
     }
-    let n = (slots.len() / 4) as u16;
-    let Ok(()) = ledger.clear(n) else {
-        return Err(ReplayError::TooManyCells);
-    };
-    let mut table = vec![in heap; 0u16; slots.len()]?;
-    draw(ledger, &mut table, slots, edits, n)?;
-    Ok(n)
-}
-
-// Fills an empty table with the slots, and then makes the edits.
-fn draw<L: Ledger>(
-    ledger: &mut L,
-    table: &mut [u16],
-    slots: &[u16],
-    edits: &[Edit],
-    n: u16,
-) -> Result<(), ReplayError>
-    requires few { length table.old ≤ 4096 }
-    requires same { length slots.now ≡ length table.old }
-    ensures { elim result [ Ok _ ↦ (Follows L.Ledger.ops n table.old ledger.old → Follows L.Ledger.ops n (edited slots.now edits.now) ledger.new) | Err e ↦ (e ≡ OutOfRange) × (BadContent n slots.now ⊎ BadEdit n (length slots.now) edits.now) ] }
-{
-    fill(ledger, table, slots, n)?;
-    change(ledger, table, edits, n)
-}
-
-// Puts a content into a slot of the table. Only a change is noted.
-fn put<L: Ledger>(ledger: &mut L, table: &mut [u16], slot: usize, content: u16)
-    requires few { length table.old ≤ 4096 }
-    requires within { slot < length table.old }
-    ensures table { table.new ≡ slice_set table.old slot content }
-    ensures follows { (n : ℕ) → content ≤ n → Follows L.Ledger.ops n table.old ledger.old → Follows L.Ledger.ops n table.new ledger.new }
-{
-    let old = table[slot];
-    if old == content {
-        return;
-    }
-    ledger.note(slot as u16, old, content);
-    table[slot] = content;
-}
-
-// Fills an empty table with these contents. A content that is no cell is refused.
-fn fill<L: Ledger>(
-    ledger: &mut L,
-    table: &mut [u16],
-    contents: &[u16],
-    n: u16,
-) -> Result<(), ReplayError>
-    requires few { length table.old ≤ 4096 }
-    requires same { length contents.now ≡ length table.old }
-    ensures { elim result [ Ok _ ↦ (table.new ≡ contents.now) × (Follows L.Ledger.ops n table.old ledger.old → Follows L.Ledger.ops n table.new ledger.new) | Err e ↦ (e ≡ OutOfRange) × BadContent n contents.now ] }
-{
-    for (slot, content) in contents.iter().enumerate() {
-        if *content > n {
-            return Err(ReplayError::OutOfRange);
-        }
-        put(ledger, table, slot, *content);
-    }
-    Ok(())
-}
-
-// Makes the edits, one after the other.
-fn change<L: Ledger>(
-    ledger: &mut L,
-    table: &mut [u16],
-    edits: &[Edit],
-    n: u16,
-) -> Result<(), ReplayError>
-    requires few { length table.old ≤ 4096 }
-    ensures { elim result [ Ok _ ↦ (table.new ≡ edited table.old edits.now) × (Follows L.Ledger.ops n table.old ledger.old → Follows L.Ledger.ops n table.new ledger.new) | Err e ↦ (e ≡ OutOfRange) × BadEdit n (length table.old) edits.now ] }
-{
-    for edit in edits {
-        let slot = edit.slot as usize;
-        if slot >= table.len() || edit.content > n {
-            return Err(ReplayError::OutOfRange);
-        }
-        put(ledger, table, slot, edit.content);
-    }
-    Ok(())
+    let cells = (slots.len() / 4) as u16;
+    ledger.clear(cells)?;
+    let mut table = Table::empty(heap, cells)?;
+    table.fill(ledger, slots)?;
+    table.change(ledger, edits)?;
+    Ok(cells)
 }
 
 // What a settled ledger tells of each cell.
 fn numbers<L: Ledger>(heap: Global, ledger: &L, n: u16) -> Result<Vec<Option<u16>>, AllocError>
-    ensures { IfOk result (λ v. SomeTable L.Ledger.ops n ledger.now → Settled L.Ledger.ops ledger.now → ToldNumbers L.Ledger.ops n ledger.now v.items) }
+    requires follows { SomeTable L.Ledger.ops n ledger.now }
+    requires settled { Settled L.Ledger.ops ledger.now }
+    ensures { IfOk result (λ v. ToldNumbers L.Ledger.ops n ledger.now v.items) }
 {
-    let mut numbers = Vec::new(heap);
-    for i in 0..n {
-        numbers.push(ledger.number(i + 1))?;
-    }
-    Ok(numbers)
+    (1..=n).map(|c| ledger.number(c)).collect(heap)
 }
 
 // The cells of which a settled ledger tells 0.
@@ -149,6 +75,7 @@ fn zeros<L: Ledger>(heap: Global, ledger: &L, n: u16) -> Result<Vec<u16>, AllocE
 {
     let mut zeros = Vec::new(heap);
     let mut from = 1;
+    // A loop: that `successors` ends is not known to its `collect`.
     while let Some(c) = ledger.next_zero(from) {
         zeros.push(c)?;
         from = c + 1;

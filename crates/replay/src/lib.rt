@@ -4,6 +4,7 @@
 mod acts;
 mod replay;
 mod stack;
+mod table;
 
 pub use acts::replay_table;
 pub use replay::{ReplayError, Replayed};

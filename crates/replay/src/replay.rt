@@ -1,7 +1,8 @@
 //! What is replayed, and what comes of it.
 ghost use Rattle.std.specs.Prelude.{◌≡◌};
-ghost use Rattle.replay.specs.declared.replay.ReplayError.TheVariants.{Memory as NoMemory};
+ghost use Rattle.replay.specs.declared.replay.ReplayError.TheVariants.{Memory as NoMemory, TooManyCells as TooMany};
 
+use ledgers::TooManyCells;
 use std::alloc::AllocError;
 use std::error::Error;
 use std::fmt;
@@ -35,13 +36,21 @@ impl From<AllocError> for ReplayError {
     }
 }
 
+impl From<TooManyCells> for ReplayError {
+    ghost from_gives = { λ _ r. r ≡ TooMany };
+
+    fn from(_: TooManyCells) -> ReplayError {
+        ReplayError::TooManyCells
+    }
+}
+
 impl fmt::Display for ReplayError {
     fn fmt<W: fmt::Write>(&self, f: &mut fmt::Formatter<W>) -> fmt::Result {
-        match self {
-            ReplayError::TooManyCells => f.write_str("more parts than the ledger has room for"),
-            ReplayError::OutOfRange => f.write_str("a slot or its content is out of range"),
-            ReplayError::Memory => f.write_str("out of memory"),
-        }
+        f.write_str(match self {
+            ReplayError::TooManyCells => "more parts than the ledger has room for",
+            ReplayError::OutOfRange => "a slot or its content is out of range",
+            ReplayError::Memory => "out of memory",
+        })
     }
 }
 

@@ -3,6 +3,9 @@ use Rattle.replay.specs.Replays.{Replays, edited}
 use Rattle.replay.specs.declared.replay.Replayed.{Replayed}
 use Rattle.replay.proofs.acts.replay_table.Goals as goal
 
+pub numbers-requires-clause-follows : goal.numbers-requires-clause-follows
+numbers-requires-clause-follows g c = (_, (settled g.L.Ledger.laws c.settle.ensures c.in_ok-n.ensures.1).0)
+
 pub zeros-requires : goal.zeros-requires
 zeros-requires g c =
     let s = settled g.L.Ledger.laws c.settle.ensures c.in_ok-n.ensures.1 in
@@ -17,7 +20,7 @@ returns g c =
       follows = s.0;
       settled = s.1;
       waited = (_, c.settle.ensures, c.waiting-waiting.ensures);
-      numbers = c.in_ok-numbers.ensures (_, s.0) s.1;
+      numbers = c.in_ok-numbers.ensures;
       zeros = c.in_ok-zeros.ensures;
     } in
     record { ledger = (c.in_ok-n.n, f.0, replays); kept = kept g.L.Ledger.laws f.0 replays }
