@@ -1,9 +1,10 @@
 //! Reads a drawing and edits of it from standard input, keeps its references through a stack of ledgers, and prints what it found.
 #![tactic(auto)]
 
-use counts::{Count, Exact, ExactRow, Sticky, StickyRow, Tally, TallyRow};
+use counts::{Count, Exact, Sticky, Tally};
 use parts::{Drawing, Edit};
 use replay::{Replayed, keep};
+use std::alloc::Global;
 use std::io::Read;
 use std::process::ExitCode;
 use std::{fmt, str};
@@ -16,7 +17,7 @@ impl fmt::Display for Answer {
     fn fmt<W: fmt::Write>(&self, f: &mut fmt::Formatter<W>) -> fmt::Result {
         match self.0 {
             Some(number) => write!(f, "{number}"),
-            None => write!(f, "stuck"),
+            None => f.write_str("stuck"),
         }
     }
 }
@@ -29,18 +30,14 @@ struct Answers {
     tally: Replayed,
 }
 
-fn count(rt: &HostRuntime, drawing: &Drawing<'_>, edits: &[Edit]) -> anyhow::Result<Answers> {
-    let heap = rt.alloc();
-    let parts = drawing.names().len();
-    let slots = drawing.slots();
-    let mut exact_rows = vec![in heap; ExactRow { value: 0 }; parts]?;
-    let mut sticky_rows = vec![in heap; StickyRow { value: 0 }; parts]?;
-    let mut tally_rows = vec![in heap; TallyRow { ones: 0 }; parts]?;
-    Ok(Answers {
-        exact: keep::<Exact>(heap, &mut exact_rows, slots, edits)?,
-        sticky: keep::<Sticky>(heap, &mut sticky_rows, slots, edits)?,
-        tally: keep::<Tally>(heap, &mut tally_rows, slots, edits)?,
-    })
+// What the references come to by counts of kind `K`.
+fn count<K: Count>(
+    heap: Global,
+    drawing: &Drawing<'_>,
+    edits: &[Edit],
+) -> anyhow::Result<Replayed> {
+    let mut rows = vec![in heap; K::new().to_row(); drawing.names().len()]?;
+    Ok(keep::<K>(heap, &mut rows, drawing.slots(), edits)?)
 }
 
 // A line for each part, then the parts that nobody points to.
@@ -61,7 +58,7 @@ fn print_parts(rt: &HostRuntime, drawing: &Drawing<'_>, answers: &Answers) -> an
     }
     println!(rt; "nobody points to:")?;
     for part in answers.exact.zeros.iter() {
-        if let Some(name) = names.get((*part as usize).wrapping_sub(1)) {
+        if let Some(name) = usize::from(*part).checked_sub(1).and_then(|i| names.get(i)) {
             println!(rt; "{}", str::from_utf8(name)?)?;
         }
     }
@@ -73,9 +70,13 @@ fn run(rt: &HostRuntime) -> anyhow::Result<()> {
     let heap = rt.alloc();
     let mut text = Vec::new(heap);
     rt.stdin().read_to_end(&mut text)?;
-    let drawing = parts::read(heap, text.as_slice())?;
-    let edits = parts::read_edits(heap, text.as_slice(), &drawing)?;
-    let answers = count(rt, &drawing, edits.as_slice())?;
+    let drawing = parts::read(heap, &text)?;
+    let edits = parts::read_edits(heap, &text, &drawing)?;
+    let answers = Answers {
+        exact: count::<Exact>(heap, &drawing, &edits)?,
+        sticky: count::<Sticky>(heap, &drawing, &edits)?,
+        tally: count::<Tally>(heap, &drawing, &edits)?,
+    };
     println!(rt; "waiting before settle: {}", answers.exact.waiting)?;
     print_parts(rt, &drawing, &answers)?;
     let lines = drawing.lines();
