@@ -40,9 +40,8 @@ fn count<K: Count>(
     Ok(keep::<K>(heap, &mut rows, drawing.slots(), edits)?)
 }
 
-// A line for each part, then the parts that nobody points to.
-fn print_parts(rt: &HostRuntime, drawing: &Drawing<'_>, answers: &Answers) -> anyhow::Result<()> {
-    let names = drawing.names();
+// A line for each part.
+fn print_numbers(rt: &HostRuntime, names: &[&[u8]], answers: &Answers) -> anyhow::Result<()> {
     let exact = answers.exact.numbers.iter();
     let sticky = answers.sticky.numbers.iter();
     let tally = answers.tally.numbers.iter();
@@ -56,8 +55,13 @@ fn print_parts(rt: &HostRuntime, drawing: &Drawing<'_>, answers: &Answers) -> an
             Answer(*tally)
         )?;
     }
+    Ok(())
+}
+
+// The parts of these numbers, to which nobody points.
+fn print_zeros(rt: &HostRuntime, names: &[&[u8]], zeros: &[u16]) -> anyhow::Result<()> {
     println!(rt; "nobody points to:")?;
-    for part in answers.exact.zeros.iter() {
+    for part in zeros {
         if let Some(name) = usize::from(*part).checked_sub(1).and_then(|i| names.get(i)) {
             println!(rt; "{}", str::from_utf8(name)?)?;
         }
@@ -78,7 +82,8 @@ fn run(rt: &HostRuntime) -> anyhow::Result<()> {
         tally: count::<Tally>(heap, &drawing, &edits)?,
     };
     println!(rt; "waiting before settle: {}", answers.exact.waiting)?;
-    print_parts(rt, &drawing, &answers)?;
+    print_numbers(rt, drawing.names(), &answers)?;
+    print_zeros(rt, drawing.names(), &answers.exact.zeros)?;
     let lines = drawing.lines();
     let parts = drawing.names().len();
     let references = drawing.references();

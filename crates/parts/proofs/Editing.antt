@@ -6,13 +6,10 @@ use Rattle.parts.specs.Drawn.{subject}
 use Rattle.parts.specs.Edits.{is_slot, owner, is_part, edit_fault, Makes, Make, Within}
 use Rattle.parts.specs.Text.{Bytes}
 use Rattle.parts.specs.declared.edits.Edit.{Edit}
-use Rattle.parts.specs.declared.fault.Fault.TheVariants.{BadEdit, UnknownPart}
+use Rattle.parts.specs.declared.fault.Fault.TheVariants.{UnknownPart}
 use Rattle.parts.proofs.Firsts.{among_decides, unknown}
 
 module _ (names ws : List Bytes) where
-  pub too_long : 3 < length ws → edit_fault names ws ≡ Some BadEdit
-  too_long h = cond-true _ _ _ (or_left _ _ (lt-ltb 3 (length ws) h))
-
   -- an edit that is well formed
   module _ (short : length ws ≤ 3) (slot : is_slot (subject ws) ≡ true) where
     abbrev lost : Bool

@@ -3,7 +3,7 @@ use Rattle.std.proofs.Common.{◌≡◌, ℕ, ◌+◌, ◌-◌, ◌<◌, ◌≤�
 use Rattle.std.specs.List.{ContainsAt as Has}
 use Rattle.std.specs.Str.{bytes_eq}
 use Rattle.std.proofs.lemmas.List.{length_push, get_or-set_same, get_or-set_other}
-use Rattle.std.proofs.lemmas.List.Sums.{sum_by_push, sum_by-set, count_by-le-length}
+use Rattle.std.proofs.lemmas.List.Sums.{sum_by_push, sum_by-set}
 use Rattle.std.proofs.lemmas.Bool.{cases_Bool, cond-true, cond-false, lt-ltb, le-ltb}
 use Rattle.parts.specs.Building.{known, added, about, mark, fault_in, Building, Described, Numbered, Filled, Grown, Crowded, Unfit}
 use Rattle.parts.specs.Drawn.{subject, mentions, firsts, Called, content}
@@ -84,10 +84,6 @@ count_marked d c i e some is f =
     let bs = vec_items d.described in
     let old = ap {B = ℕ} (λ (t : Bool). cond t 1 0) (ap (λ k. get_or bs k false) here ∙ f) in
     omega (arith, d.counted, old, sum_by-set (λ (t : Bool). cond t 1 0) bs (i - 1) true false (omega (arith, marks d)))
-
--- a drawing has few lines
-pub few_lines : (d : Drawing) → d.lines ≤ 1024
-few_lines d = omega (arith, d.counted, count_by-le-length (λ b. b) (vec_items d.described), marks d, parts d, d.few)
 
 module _ {ds : List (List Bytes)} {before mid : Drawing} {w : Bytes} {part : ℕ} (b : Building ds before) (num : Numbered w before mid part)
     (unmarked : mark mid part ≡ false) (rest : List Bytes) (fine : fault_in (w ∷ rest) ≡ None) where

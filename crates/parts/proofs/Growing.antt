@@ -1,10 +1,9 @@
 -- A drawing in which names become parts. Assumes nothing.
-use Rattle.std.proofs.Common.{◌≡◌, ℕ, zero, suc, ◌-◌, ◌*◌, ◌≤◌, Bool, true, false, cond, List, [], ◌∷◌, ◌++◌, map, length, get_or, vec_items, vec_len, count_by, ◌+◌, ◌<◌, ⊎_elim, true≢false, sym, refl, ap, ◌∙◌, arith, Bor}
+use Rattle.std.proofs.Common.{◌≡◌, ℕ, zero, suc, ◌-◌, ◌*◌, ◌≤◌, Bool, true, false, List, [], ◌∷◌, ◌++◌, map, length, get_or, vec_items, vec_len, ◌+◌, ◌<◌, ⊎_elim, true≢false, sym, refl, ap, ◌∙◌, arith, Bor}
 use lib.ListN.{length-map}
 use Rattle.std.specs.List.{AllWithin, HoldsAt, ContainsAt as Has}
 use Rattle.std.proofs.lemmas.List.{get_or-map, get_or_past, get_or_append_left, map_push, length_push, get_or_push, get_or_read_under}
 use Rattle.std.proofs.lemmas.Bool.{cases_lt}
-use Rattle.std.proofs.lemmas.List.Sums.{sum_by_push}
 use Rattle.parts.specs.declared.drawing.Drawing.{Drawing}
 use Rattle.parts.specs.Building.{known, mark, Numbered}
 use Rattle.parts.specs.Drawn.{Called}
@@ -39,9 +38,6 @@ get_or_empty (suc (suc (suc (suc k)))) = refl
 get_or_unmarked : (k : ℕ) → get_or (false ∷ []) k false ≡ false
 get_or_unmarked zero = refl
 get_or_unmarked (suc k) = refl
-
-pub count_unmarked : (bs : List Bool) → count_by (λ b. b) (bs ++ false ∷ []) ≡ count_by (λ b. b) bs
-count_unmarked bs = omega (arith, sum_by_push (λ b. cond b 1 0) bs false)
 
 -- the parts of a drawing after a new one
 pub record Newer (w : Bor (List ℕ)) (before after : Drawing) : Type 0 where

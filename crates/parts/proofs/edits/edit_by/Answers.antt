@@ -8,7 +8,7 @@ use Rattle.parts.specs.Building.{bytes, known}
 use Rattle.parts.specs.Drawn.{subject, Called}
 use Rattle.parts.specs.Edits.{Slot, is_slot, owner}
 use Rattle.parts.specs.declared.fault.Fault.TheVariants.{UnknownPart}
-use Rattle.parts.proofs.Editing.{too_long, no_owner, no_other, no_fault}
+use Rattle.parts.proofs.Editing.{no_owner, no_other, no_fault}
 use Rattle.parts.proofs.Firsts.{has_called}
 use Rattle.parts.proofs.edits.edit_by.Goals as goal
 use Rattle.parts.proofs.edits.edit_by.Goals.{In_ok-name, In_ok-part}
@@ -29,9 +29,6 @@ slot c =
 
 part : (c : In_ok-part) → Called (known c.args.drawing.now) c.in_ok-part.part c.in_ok-name.name.now
 part c = let some : c.find.result ≡ Some c.in_ok-part.part = grind arith in MatchOption-at_some _ (λ k. Called (known c.args.drawing.now) k c.in_ok-name.name.now) _ some c.find.ensures
-
-pub returns-then-words-gt-MOST_WORDS : goal.returns-then-words-gt-MOST_WORDS
-returns-then-words-gt-MOST_WORDS c = too_long (known c.args.drawing.now) (bytes c.args.words.now) (rw length-map c.if-words-gt-MOST_WORDS.true)
 
 pub returns-in_err-part : goal.returns-in_err-part
 returns-in_err-part c =

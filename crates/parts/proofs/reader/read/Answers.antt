@@ -6,7 +6,7 @@ use Rattle.parts.specs.Errors.{at_line}
 use Rattle.parts.specs.Reads.{Reads, Taken}
 use Rattle.parts.specs.Text.{lines}
 use Rattle.parts.specs.declared.fault.LineError.{LineError}
-use Rattle.parts.proofs.Reading.{none_done, stopped, one_more, all_done}
+use Rattle.parts.proofs.Reading.{stopped, one_more, all_done}
 use Rattle.parts.proofs.Turns.{IsLine, turn, ended, mapped_ok, mapped_err}
 use Rattle.parts.proofs.reader.read.Goals as goal
 use Rattle.parts.proofs.reader.read.Goals.{After-read_line, After-map_err}
@@ -24,9 +24,6 @@ named c e is =
     let p = err_from_is_err_and c.map_err.result (rw is at c.map_err.ensures.cases) in
     let q : p.0 ≡ at_line (c.in-Some.above + 1) e = search rules in
     p.1 ∙ ap Err q
-
-pub loop-above-init : goal.loop-above-init
-loop-above-init c = none_done c.args.text.now c.new-drawing.result c.new-drawing.ensures
 
 pub returns-in_err-map_err : goal.returns-in_err-map_err
 returns-in_err-map_err c =

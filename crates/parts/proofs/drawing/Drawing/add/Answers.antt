@@ -1,8 +1,8 @@
-use Rattle.std.proofs.Common.{◌+◌, false, [], ◌∷◌, ◌++◌, length, vec_items, count_by, sym, refl, ap, ◌∙◌, subst, arith}
+use Rattle.std.proofs.Common.{false, [], ◌∷◌, ◌++◌, length, sym, refl, ap, ◌∙◌, subst, arith}
 use Rattle.std.proofs.lemmas.List.{length_push}
 use Rattle.parts.specs.Building.{known, Crowded}
 use Rattle.parts.proofs.Firsts.{added_new}
-use Rattle.parts.proofs.Growing.{parts, count_unmarked, numbered_new}
+use Rattle.parts.proofs.Growing.{parts, numbered_new}
 use Rattle.parts.proofs.drawing.Drawing.add.Goals as goal
 
 pub returns-then-len-eq-MOST_PARTS : goal.returns-then-len-eq-MOST_PARTS
@@ -10,21 +10,6 @@ returns-then-len-eq-MOST_PARTS c =
     let names = known c.args.self.now in
     let long = ap length (added_new names c.args.name.now c.requires) ∙ length_push names c.args.name.now in
     subst (Crowded (c.args.name.now ∷ []) c.args.self.now) (sym c.into.ensures) (refl, omega (arith, long, parts c.args.self.now, c.len.ensures, c.if-len-eq-MOST_PARTS.true))
-
-pub invariant_of-self-2 : goal.invariant_of-self-2
-invariant_of-self-2 c =
-    let old = c.args.self.now in
-    let names = c.push_reserved.ensures.len ∙ ap (λ n. n + 1) c.reserve.ensures.len in
-    let described = c.push_reserved-2.ensures.len ∙ ap (λ n. n + 1) c.reserve-2.ensures.len in
-    let slots = c.in_ok-extend_from_slice.ensures.len in
-    let marks = c.push_reserved-2.ensures.items ∙ ap (λ l. l ++ false ∷ []) c.reserve-2.ensures.items in
-    record {
-      slotted = omega (arith, names, slots, old.slotted);
-      marked = omega (arith, names, described, old.marked);
-      few = omega (arith, names, old.few, c.len.ensures, c.if-len-eq-MOST_PARTS.false);
-      counted = old.counted ∙ sym (ap (count_by (λ b. b)) marks ∙ count_unmarked (vec_items old.described));
-      bounded = old.bounded;
-    }
 
 pub returns : goal.returns
 returns c =

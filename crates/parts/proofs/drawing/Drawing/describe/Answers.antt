@@ -5,7 +5,7 @@ use Rattle.std.proofs.lemmas.Result.{err_from_is_err_and}
 use Rattle.std.proofs.lemmas.Bool.{ltb-false}
 use Rattle.parts.specs.Building.{bytes, mark, fault_in}
 use Rattle.parts.specs.Text.{Bytes}
-use Rattle.parts.proofs.Ends.{passes, count_marked, few_lines, described_as, described_unfit, described_crowded, described_done}
+use Rattle.parts.proofs.Ends.{passes, count_marked, described_as, described_unfit, described_crowded, described_done}
 use Rattle.parts.proofs.Filling.{called_grown, grown_long}
 use Rattle.parts.proofs.Growing.{parts}
 use Rattle.parts.proofs.drawing.Drawing.describe.Goals as goal
@@ -36,15 +36,6 @@ returns-in_err-part c ds b =
     (described_as ds _ _ c.subject.new.self (Err e) (split words _ c.requires.some)
     (described_unfit b _ (rest words) (fine words _ c.requires.some c.in_ok-check.ensures) c.subject.new.self e c.in_err-part.ensures))
 
-pub place-requires : goal.place-requires
-place-requires c =
-    let words = c.args.words.now in
-    let is = c.in_ok-part.ensures.0.called in
-    record {
-      is_part = (is.0, is.1);
-      fits = omega (arith, few words c.in_ok-check.ensures, ap length (take_rest words 1), length-drop 1 words);
-    }
-
 pub returns-in_err-place : goal.returns-in_err-place
 returns-in_err-place c ds b =
     let p = err_from_is_err_and c.from_residual-in_err-place.result c.from_residual-in_err-place.ensures.1 in
@@ -60,12 +51,6 @@ index_mut-requires c =
     let full = c.place.new.self in
     let is = c.in_ok-part.ensures.0.called in
     omega (arith, c.from.ensures, is.0, is.1, grown_long {after = full} c.in_ok-place.ensures.grown, parts full, full.marked)
-
-pub overflow_add-self : goal.overflow_add-self
-overflow_add-self c = omega (arith, few_lines c.place.new.self)
-
-pub overflow_add-self-2 : goal.overflow_add-self-2
-overflow_add-self-2 c = omega (arith, few_lines c.place.new.self, c.place.new.self.bounded, few c.args.words.now c.in_ok-check.ensures)
 
 pub invariant_of-self : goal.invariant_of-self
 invariant_of-self c =

@@ -1,8 +1,8 @@
 use Rattle.std.proofs.Common.{ℕ, ◌+◌, ◌-◌, ◌*◌, ◌<◌, List, [], ◌∷◌, length, set, vec_items, sym, refl, ap, subst, arith, Bor}
 use lib.ListN.{length-map}
-use Rattle.std.proofs.lemmas.List.{get_or-map, take_all}
+use Rattle.std.proofs.lemmas.List.{get_or-map}
 use Rattle.std.proofs.lemmas.Result.{err_from_is_err_and}
-use Rattle.parts.specs.Building.{bytes, Numbered, Filled, Crowded}
+use Rattle.parts.specs.Building.{bytes, Numbered, Crowded}
 use Rattle.parts.proofs.Filling.{crowded_more, filled_more, grown_long}
 use Rattle.parts.proofs.Growing.{parts}
 use Rattle.parts.proofs.drawing.Drawing.place.Goals as goal
@@ -41,8 +41,3 @@ loop-slot-preserved c =
       referred = refl;
     })
     (shorter names i c.loop-slot-test.true) (rw length-map c.requires.fits) c.requires.is_part.0 c.requires.is_part.1
-
-pub returns : goal.returns
-returns c =
-    let names = c.args.names.now in
-    subst (λ ws. Filled c.args.part ws c.args.self.now c.loop-slot.self) (take_all c.loop-slot.slot (bytes names) (rw length-map c.loop-slot-test.false)) c.loop-slot.invariant
