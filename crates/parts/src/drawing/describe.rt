@@ -47,6 +47,7 @@ impl<'a> Drawing<'a> {
         ensures { MatchResult result (λ _. Filled part (bytes names.now) self.old self.new) (Crowded (bytes names.now) self.old) }
     {
         let first = 4 * (usize::from(part) - 1);
+        // By their numbers, since a name may be that of a new part, whose slots come to the others.
         for (slot, name) in names.iter().enumerate() {
             let number = self.number(name)?;
             self.slots[first + slot] = number;

@@ -1,17 +1,7 @@
-use Rattle.std.proofs.Common.{◌+◌, is_ok, vec_items, sym, ap, subst, arith, rules}
+use Rattle.std.proofs.Common.{◌+◌, is_ok, vec_items, sym, ap, subst, arith}
 use Rattle.replay.proofs.Following.{ListedBelow, listed_more, listed_all}
 use Rattle.std.proofs.ResultArms.{chosen}
 use Rattle.replay.proofs.acts.zeros.Goals as goal
-
-pub overflow_add-from : goal.overflow_add-from
-overflow_add-from g c =
-    let f = c.requires.follows.1 in
-    let p = g.L.Ledger.laws in
-    let next = c.in-Some.ensures c.requires.follows.0 f.agrees in
-    let few = p.cells_bound _ _ f.agrees in
-    let most = p.capacity_bound c.args.ledger.now in
-    let within = next.cell.1 in
-    search rules
 
 pub loop-c-preserved : goal.loop-c-preserved
 loop-c-preserved g c =
