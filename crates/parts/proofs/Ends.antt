@@ -1,6 +1,6 @@
 -- How a description ends: refused for a fault, or as part of the drawing. Assumes nothing.
 use Rattle.std.proofs.Common.{◌≡◌, ℕ, ◌+◌, ◌-◌, ◌<◌, ◌≤◌, Bool, true, false, cond, ltb, List, [], ◌∷◌, ◌++◌, length, get_or, set, Some, None, Ok, Err, vec_items, fold, count_by, Result, sym, refl, ap, ◌∙◌, subst, ⊎_elim, true≢false, arith}
-use Rattle.std.specs.List.{ContainsAt as Has}
+use Rattle.std.specs.List.{list_any, ContainsAt as Has}
 use Rattle.std.specs.Str.{bytes_eq}
 use Rattle.std.proofs.lemmas.List.{length_push, get_or-set_same, get_or-set_other}
 use Rattle.std.proofs.lemmas.List.Sums.{sum_by_push, sum_by-set}
@@ -8,7 +8,6 @@ use Rattle.std.proofs.lemmas.Bool.{cases_Bool, cond-true, cond-false, lt-ltb, le
 use Rattle.parts.specs.Building.{known, added, about, mark, fault_in, Building, Described, Numbered, Filled, Grown, Crowded, Unfit}
 use Rattle.parts.specs.Drawn.{subject, mentions, firsts, Called, content}
 use Rattle.parts.specs.Faults.{long, unprintable, fault_of}
-use Rattle.std.specs.List.{list_any}
 use Rattle.parts.specs.Text.{Bytes}
 use Rattle.parts.specs.declared.drawing.Drawing.{Drawing}
 use Rattle.parts.specs.declared.fault.LineError.{LineError}

@@ -1,6 +1,6 @@
 -- Names in order of first mention, as they are added one by one. Assumes nothing.
 use Rattle.std.proofs.Common.{◌≡◌, ℕ, ◌+◌, ◌-◌, ◌<◌, ◌≤◌, true, false, cond, not, ◌||◌, List, [], ◌∷◌, ◌++◌, length, get_or, take, drop, Decides, fold, filter, sym, refl, ap, ◌∙◌, subst, ⊎_elim, append_assoc, append-nil, arith, length-append, take-append-drop}
-use Rattle.std.specs.List.{ContainsAt as Has}
+use Rattle.std.specs.List.{list_any, ContainsAt as Has}
 use Rattle.std.specs.Str.{bytes_eq}
 use Rattle.std.proofs.lemmas.List.Elements.{filter-append}
 use Rattle.std.proofs.ByRecursion.{has_get_or, has_append_left}
@@ -10,7 +10,6 @@ use Rattle.std.proofs.lemmas.Bool.{cases_Bool, cases_lt, true≢false, cond-true
 use Rattle.std.proofs.lemmas.Bool.Decides.{Decides-by_or}
 use Rattle.parts.specs.Text.{Bytes}
 use Rattle.parts.specs.Drawn.{mentions, firsts, Called}
-use Rattle.std.specs.List.{list_any}
 use Rattle.parts.specs.Building.{added}
 
 pub same_yes : (v w : Bytes) → v ≡ w → bytes_eq v w ≡ true

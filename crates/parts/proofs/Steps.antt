@@ -1,13 +1,12 @@
 -- What a drawing shows after one more description. Assumes nothing.
 use Rattle.std.proofs.Common.{◌≡◌, ℕ, ◌+◌, ◌-◌, ◌*◌, ◌<◌, ◌≤◌, Bool, true, false, ◌||◌, ◌≢◌, List, [], ◌∷◌, ◌++◌, length, get_or, fold, sym, refl, ap, ◌∙◌, subst, ⊎_elim, add-one, arith}
-use Rattle.std.specs.List.{ContainsAt as Has, AllByRecursion}
+use Rattle.std.specs.List.{list_any, ContainsAt as Has, AllByRecursion}
 use Rattle.std.specs.Str.{bytes_eq}
 use Rattle.std.proofs.ByRecursion.{All-push, All-weaker}
 use Rattle.std.proofs.lemmas.List.{get_or_append_left, get_or_past}
 use Rattle.std.proofs.lemmas.Bool.{cases_lt, cases_eq, or_parts, or_right}
 use Rattle.parts.specs.Building.{added, about}
 use Rattle.parts.specs.Drawn.{subject, Called, content, Placed, Drawn}
-use Rattle.std.specs.List.{list_any}
 use Rattle.parts.specs.Text.{Bytes}
 use Rattle.parts.proofs.Firsts.{same_yes, same_no, differ, Distinct, firsts_more, folded_more, folded_long, called_as, called_folded, called_once, called_has, has_called, has_folded}
 

@@ -1,12 +1,11 @@
 -- A drawing between two descriptions, and what one more description makes of it.
 use Rattle.std.specs.Prelude.{◌≡◌, ℕ, ◌+◌, ◌-◌, ◌*◌, ◌<◌, ◌≤◌, Bool, true, false, cond, ◌⊎◌, List, [], ◌∷◌, ◌++◌, map, length, Some, None, Ok, Err, vec_items, fold, Option, Result, ◌≢◌, nat_lt, slice_index, slice_index_or}
 use Rattle.std.specs.Borrow.{Bor}
-use Rattle.std.specs.List.{ContainsAt as Has, AllByRecursion}
+use Rattle.std.specs.List.{list_any, ContainsAt as Has, AllByRecursion}
 use Rattle.std.specs.Str.{bytes_eq}
 use Rattle.parts.specs.Text.{Bytes}
 use Rattle.parts.specs.Drawn.{subject, references, Called, content, Drawn}
 use Rattle.parts.specs.Faults.{long, unprintable, check, first_fault, fault_of}
-use Rattle.std.specs.List.{list_any}
 use Rattle.parts.specs.declared.drawing.Drawing.{Drawing}
 use Rattle.parts.specs.declared.fault.LineError.{LineError}
 use Rattle.parts.specs.declared.fault.LineError.TheVariants.{Wrong, Memory}

@@ -1,10 +1,9 @@
 -- The edits of a drawing's slots that a text makes, and what is wrong with one that makes none.
 use Rattle.std.specs.Prelude.{◌≡◌, ℕ, ◌+◌, ◌-◌, ◌*◌, ◌<◌, ◌≤◌, Bool, cond, not, ◌&&◌, ◌||◌, List, [], ◌∷◌, ◌++◌, map, length, take, Some, None, Ok, Err, filter, Option, Result, ◌==◌, nat_lt, slice_index, slice_index_or}
-use Rattle.std.specs.List.{AllByRecursion}
+use Rattle.std.specs.List.{list_any, AllByRecursion}
 use Rattle.std.specs.Str.{bytes_eq}
 use Rattle.parts.specs.Drawn.{is_edit, subject, Called}
 use Rattle.parts.specs.Faults.{check, first_fault}
-use Rattle.std.specs.List.{list_any}
 use Rattle.parts.specs.Text.{Bytes, words}
 use Rattle.parts.specs.declared.edits.Edit.{Edit}
 use Rattle.parts.specs.declared.fault.LineError.{LineError}

@@ -1,10 +1,8 @@
 //! Finding a line of a text by what it says.
 ghost use Rattle.std.specs.Prelude.{◌≡◌, IfOk};
 ghost use Rattle.parts.specs.Building.{bytes};
-ghost use Rattle.std.specs.List.{list_any};
 ghost use Rattle.parts.specs.Finds.{Finds, is_sought};
 ghost use Rattle.parts.specs.Text.{lines};
-ghost use Rattle.std.specs.Str.{bytes_eq};
 
 use crate::kinds::{is_edit, is_passed};
 use crate::text::{is_newline, split_words};

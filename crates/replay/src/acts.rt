@@ -1,5 +1,5 @@
 //! Replaying: each slot's content is a note, and so is each edit.
-ghost use Rattle.std.specs.Prelude.{◌≡◌, IfOk};
+ghost use Rattle.std.specs.Prelude.{IfOk};
 ghost use Rattle.ledgers.specs.Meaning.{Settled};
 ghost use Rattle.replay.specs.Replays.{Followed, Kept, Replaying, ToldNumbers, SomeTable, ZerosListed};
 
