@@ -42,6 +42,7 @@ pub fn find_line(
 ) -> Result<Option<usize>, AllocError>
     ensures { IfOk result (Finds kind name.now (lines text.now) skip) }
 {
+    // Counted here, and not by `nth`: a test that takes memory can't be a `filter`.
     let mut to_pass = skip;
     for (above, line) in text.split(is_newline).enumerate() {
         let words = split_words(heap, line)?;

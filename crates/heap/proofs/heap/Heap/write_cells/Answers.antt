@@ -14,11 +14,6 @@ loop-c-preserved g c =
           rw e (has_written_of_eq _ _ _ _ _ (rows_more (state c.args.self.now) i (omega arith)) (has_written_append _ _ _ _ _ _ before (c.in_ok-write_cell.ensures before.plain refl))),
     )
 
-pub returns : goal.returns
-returns g c plain ok =
-    let e : c.loop-c.c - 1 ≡ c.args.self.now.graph.n = omega arith in
-    rw e at (c.loop-c.invariant.1 plain)
-
 pub returns-in_ok-write_cell : goal.returns-in_ok-write_cell
 returns-in_ok-write_cell g c plain ok =
     let before = c.loop-c.invariant.1 plain in
