@@ -1,4 +1,6 @@
 //! The kinds of count.
+ghost use Rattle.std.specs.Prelude.{◌≡◌, ℕ, ◌%◌};
+
 use counts::{Count, Exact, ExactRow, Sticky, StickyRow, Tally, TallyRow};
 use std::fmt;
 
@@ -24,12 +26,17 @@ impl fmt::Display for KindName {
 pub trait Kind: Count {
     const NAME: KindName;
 
-    /// A row of the low bytes of `bits`.
-    fn row(bits: u16) -> Self::Row;
+    /// The row that holds the low bytes of a number.
+    ghost row_of: { ℕ → Self.Row };
+
+    fn row(bits: u16) -> Self::Row
+        ensures { result ≡ row_of bits };
 }
 
 impl Kind for Exact {
     const NAME: KindName = KindName::Exact;
+
+    ghost row_of = { λ bits. record { value = bits } };
 
     fn row(bits: u16) -> ExactRow {
         ExactRow { value: bits }
@@ -39,17 +46,23 @@ impl Kind for Exact {
 impl Kind for Sticky {
     const NAME: KindName = KindName::Sticky;
 
+    ghost row_of = { λ bits. record { value = bits % 256 } };
+
     fn row(bits: u16) -> StickyRow {
-        let [value, _] = bits.to_le_bytes();
-        StickyRow { value }
+        StickyRow {
+            value: (bits % 256) as u8,
+        }
     }
 }
 
 impl Kind for Tally {
     const NAME: KindName = KindName::Tally;
 
+    ghost row_of = { λ bits. record { ones = bits % 256 } };
+
     fn row(bits: u16) -> TallyRow {
-        let [ones, _] = bits.to_le_bytes();
-        TallyRow { ones }
+        TallyRow {
+            ones: (bits % 256) as u8,
+        }
     }
 }
