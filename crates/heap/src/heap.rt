@@ -4,6 +4,8 @@ ghost use Rattle.heap.specs.Within.{Within};
 
 use crate::graph::Graph;
 
+// What a call keeps is a clause of each call and no ghost field: it speaks of the ledger too, before and after, which no type here holds.
+
 /// A heap. It never has more cells than its tables have room for, and contains no cell that it doesn't have.
 #[derive(Drop)]
 pub struct Heap {

@@ -54,6 +54,7 @@ impl Sight {
     pub fn first_zero(&self, c: u16) -> Option<u16>
         ensures { FirstZero (map (λ t. t.number) self.now.told.items) c self.now.cells result }
     {
+        // Of a range that contains its end, the library doesn't say that `find` finds the first.
         for d in c.max(1)..=self.cells {
             if self.number(d) == Some(0) {
                 return Some(d);

@@ -53,7 +53,7 @@ impl<'a, K: Count> Ledger for Bottom<'a, K> {
         if n > self.capacity() {
             return Err(TooManyCells);
         }
-        rows::renew::<K>(self.rows, n as usize);
+        rows::renew::<K>(self.rows, usize::from(n));
         self.n = n;
         Ok(())
     }

@@ -9,7 +9,7 @@ use counts::Count;
 fn place(c: u16, len: usize) -> Option<usize>
     ensures { Placed c len result }
 {
-    let i = (c as usize).checked_sub(1)?;
+    let i = usize::from(c).checked_sub(1)?;
     if i < len { Some(i) } else { None }
 }
 

@@ -15,7 +15,7 @@ use ledgers::Ledger;
 
 const ROUNDS: u32 = 256;
 
-// Takes an open token back.
+// Takes an open token back. A match: an `Unreleased` may not be let go, so that no `let .. else` can be written.
 fn take_back<L: Ledger>(heap: &mut Heap, ledger: &L, token: Token)
     requires { cause_of (release_checks (state heap.old) token) ≡ None }
     ensures { state heap.new ≡ with_hold (state heap.old) token.hold 0 }

@@ -33,6 +33,7 @@ impl Bits {
         if c == 0 || c > 1024 {
             return;
         }
+        // A cast, and no `usize::from`: it computes in the proof.
         let i = (c as usize - 1) / 64;
         let mask = 1u64 << ((c - 1) % 64);
         if on {

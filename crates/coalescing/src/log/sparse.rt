@@ -32,6 +32,7 @@ impl Entries {
         requires { slot < 4096 }
         ensures { Found self.now slot result }
     {
+        // Casts, and no `usize::from`: they compute in the proof.
         let i = self.index[slot as usize] as usize;
         if i < self.size() && self.at[i].slot == slot {
             Some(i)
