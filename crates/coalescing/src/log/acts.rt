@@ -1,5 +1,5 @@
 //! The log as a ledger.
-ghost use Rattle.std.specs.Prelude.{◌≡◌, ◌<◌, true, false};
+ghost use Rattle.std.specs.Prelude.{◌≡◌, ◌<◌, ◌↔◌, IsTrue};
 ghost use Rattle.coalescing.specs.LogLaws.{log_lawful};
 ghost use Rattle.coalescing.specs.Logs.{Added, emptied, entries, log_ops, Passed, Sent, Takes, Unlogged, WellFormed};
 
@@ -38,8 +38,7 @@ impl<L: Ledger> Log<L> {
 
     /// Whether the log takes a note. A slot past the index is out of range too.
     fn takes(&self, slot: u16, old: u16, new: u16) -> bool
-        ensures yes { result ≡ true → Takes (L.Ledger.ops.cells self.now.below) slot old new }
-        ensures no { result ≡ false → Takes (L.Ledger.ops.cells self.now.below) slot old new → ⊥ }
+        ensures { IsTrue result ↔ Takes (L.Ledger.ops.cells self.now.below) slot old new }
     {
         usize::from(slot) < SLOTS && in_range(self.cells(), slot, old, new)
     }
