@@ -40,6 +40,7 @@ pub trait Ledger: Sized {
         ensures { Clearing ops n self.old self.new result };
 
     /// The slot, which contained `old`, contains `new`.
+    // Three numbers, and no struct as in a queue: not every ledger keeps its notes.
     fn note(&mut self, slot: u16, old: u16, new: u16)
         ensures { ops.Notes slot old new self.old self.new };
 
