@@ -18,7 +18,7 @@ pub struct Entry {
 
 /// A sparse set: the entries are `at[..len]`, and `index[slot]` counts only where the entry there names that slot.
 /// So the log is emptied by its length alone, and whatever the index then contains does no harm.
-/// No `Vec` and no map: a layer has a fixed table, and takes no memory.
+// A rule of the project: a layer has a plain table of a fixed size beside the ledger below, and one entry of it is lent to be changed.
 #[derive(Drop)]
 pub struct Entries {
     at: [Entry; ROOM],

@@ -44,7 +44,7 @@ pub trait Count: Copy {
         ensures { result ≡ tells self };
 
     /// The count that a row reads as, made after a check.
-    // No `From`: of that a bound tells generic code `from_gives` alone, and here a count's own words say what a row means.
+    // No `From`: that would take a supertrait and a law, besides the ghost member of each impl, where this has one clause.
     fn from_row(row: Self::Row) -> Self
         ensures { tells result ≡ reads row };
 

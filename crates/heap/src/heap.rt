@@ -4,7 +4,7 @@ ghost use Rattle.heap.specs.Within.{Within};
 
 use crate::graph::Graph;
 
-// What a call keeps is a clause of each call and no ghost field: it speaks of the ledger too, before and after, which no type here holds.
+// What a call keeps is a clause of each call and no ghost field: it ties the heap to the ledger that is passed, which may be a foreign one.
 
 /// A heap. It never has more cells than its tables have room for, and contains no cell that it doesn't have.
 #[derive(Drop)]

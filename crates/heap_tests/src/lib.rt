@@ -102,9 +102,7 @@ mod tests {
             cause(heap.store(&mut ledger, 0, 1, 2)),
         ];
         assert_eq!(rt; causes, [None; 4]);
-        let Ok(text) = heap.to_string(rt.alloc()) else {
-            return Err(Fail::new("out of memory"));
-        };
+        let text = heap.to_string(rt.alloc())?;
         assert_eq!(rt;
             text.as_str(),
             "1: - 2 - -\n2: - - - -\nroots: 1 - 2 - - - - - - - - - - - - -\nholds: - - - - - - - - - - - - - - - -\n"

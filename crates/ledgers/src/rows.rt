@@ -9,8 +9,7 @@ use counts::Count;
 fn place(c: u16, len: usize) -> Option<usize>
     ensures { Placed c len result }
 {
-    let i = usize::from(c).checked_sub(1)?;
-    if i < len { Some(i) } else { None }
+    usize::from(c).checked_sub(1).filter(|i| *i < len)
 }
 
 pub(crate) fn read<K: Count>(rows: &[K::Row], c: u16) -> Option<u16>
@@ -49,6 +48,7 @@ pub(crate) fn renew<K: Count>(rows: &mut [K::Row], n: usize)
     requires { n ≤ length rows.old }
     ensures { map K.Count.reads rows.new ≡ replicate n (Some 0) ++ drop n (map K.Count.reads rows.old) }
 {
+    // No `fill`: of the row of any kind nothing says that its copy by `clone` can't fail.
     for row in rows[..n].iter_mut() {
         *row = K::new().to_row();
     }

@@ -8,7 +8,8 @@ pub struct Note {
     pub new: u16,
 }
 
-/// The notes that wait, the oldest first, in the first `len` places. No `Vec`: a layer has a fixed table, and takes no memory.
+/// The notes that wait, the oldest first, in the first `len` places.
+// A rule of the project: a layer has a plain table of a fixed size beside the ledger below.
 #[derive(Drop)]
 pub struct Notes {
     pub(crate) at: [Note; 64],

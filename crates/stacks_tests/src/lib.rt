@@ -75,7 +75,7 @@ mod tests {
         assert_eq!(rt; ledger.number(1), Some(65));
     }
 
-    // No contract knows an associated constant of a bound, so that a layer names the ceiling of the ledger below is tested.
+    // A constant that is another type's can't be tied to a ghost member, so that a layer names the ceiling of the ledger below is tested.
     fn names_its_ceiling<L: Ledger>(rt: &impl Abort, _: &L) {
         assert_eq!(rt; L::CEILING, L::top());
     }

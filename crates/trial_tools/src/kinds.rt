@@ -26,7 +26,7 @@ impl fmt::Display for KindName {
 pub trait Kind: Count {
     const NAME: KindName;
 
-    /// The row that holds the low bytes of a number.
+    /// The row that is made of a number of 16 bits: of its low byte, where a row is one byte.
     ghost row_of: { ℕ → Self.Row };
 
     fn row(bits: u16) -> Self::Row

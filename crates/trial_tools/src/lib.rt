@@ -3,10 +3,8 @@
 
 mod kinds;
 mod random;
-mod rows;
 mod stack;
 
 pub use kinds::{Kind, KindName};
 pub use random::Random;
-pub use rows::scramble;
 pub use stack::{Layer, Stack};

@@ -72,6 +72,14 @@ fn source(random: &mut Random, model: &Model) -> u8 {
     }
 }
 
+// Both roots before the slot, so that trials stay the same.
+fn store(random: &mut Random, model: &Model) -> Call {
+    let r = source(random, model);
+    let s = source(random, model);
+    let f = stray(random, 4);
+    Call::Store { r, f, s }
+}
+
 /// What a round plays.
 #[derive(Clone, Copy)]
 pub struct Mix {
@@ -141,7 +149,7 @@ impl Mix {
                 s: source(random, model),
                 f: stray(random, 4),
             },
-            12..=23 => self.store(random, model),
+            12..=23 => store(random, model),
             _ => match self.release(random, tokens) {
                 Some(release) => release,
                 None => Call::Hold {
@@ -149,12 +157,5 @@ impl Mix {
                 },
             },
         }
-    }
-
-    fn store(&self, random: &mut Random, model: &Model) -> Call {
-        let r = source(random, model);
-        let s = source(random, model);
-        let f = stray(random, 4);
-        Call::Store { r, f, s }
     }
 }

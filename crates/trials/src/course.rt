@@ -2,7 +2,7 @@
 use super::model::Answer;
 use std::alloc::{AllocError, Global};
 use std::fmt;
-use trial_tools::Random;
+use trial_tools::{Kind, Random};
 
 /// What differs from the model, or failed.
 #[derive(Clone, Copy)]
@@ -64,10 +64,14 @@ impl Course {
         }
     }
 
-    /// Goes on to the next stack, with random numbers of its own.
-    pub fn begin(&mut self) {
+    /// Goes on to the next stack, with random numbers of its own. A ledger may begin in any state, so the rows hold them too.
+    pub fn begin<K: Kind>(&mut self, rows: &mut [K::Row]) {
         self.stacks = self.stacks.saturating_add(1);
         self.random = Random::new(u64::from(self.stacks));
+        // As in the other trials: a function of these lines would have nothing to promise.
+        for row in rows.iter_mut() {
+            *row = K::row(self.random.bits());
+        }
     }
 
     /// Sees that as many answers are right.

@@ -5,7 +5,7 @@ use coalescing::Log;
 use counts::{Exact, Sticky, Tally};
 use ledgers::{Bottom, Ledger};
 use queue::Queue;
-use trial_tools::{Kind, scramble};
+use trial_tools::{Kind, Layer};
 use zeros::Zeros;
 
 // How many cells the left and the right ledger have room for, and both.
@@ -15,83 +15,88 @@ const FEW: usize = 40;
 
 const ROWS: usize = MANY + FEW;
 
-/// The layers to put on two ledgers, the lowest first, before they are played.
-trait Layers {
-    fn play<L: Ledger + Drop>(left: L, right: L, course: &mut Course) -> Result<(), Fault>;
+/// How many layers may be put on two ledgers. Each makes another type, so that the most have to be known beforehand.
+trait Height {
+    /// Plays with the ledgers under these layers, the lowest first. Those past the height are left out.
+    fn play_under<L: Ledger + Drop>(
+        left: L,
+        right: L,
+        layers: &[Layer],
+        course: &mut Course,
+    ) -> Result<(), Fault>;
 }
 
-// A type for each layer, since a stack is a type: the trait says once what is done with them.
-struct NoMore;
+struct Top;
 
-struct AddQueue<T>(T);
+struct Below<H>(H);
 
-struct AddLog<T>(T);
-
-struct AddZeros<T>(T);
-
-impl Layers for NoMore {
-    fn play<L: Ledger + Drop>(left: L, right: L, course: &mut Course) -> Result<(), Fault> {
+impl Height for Top {
+    fn play_under<L: Ledger + Drop>(
+        left: L,
+        right: L,
+        _layers: &[Layer],
+        course: &mut Course,
+    ) -> Result<(), Fault> {
         play(left, right, course)
     }
 }
 
-impl<T: Layers> Layers for AddQueue<T> {
-    fn play<L: Ledger + Drop>(left: L, right: L, course: &mut Course) -> Result<(), Fault> {
-        T::play(Queue::new(left), Queue::new(right), course)
+impl<H: Height> Height for Below<H> {
+    fn play_under<L: Ledger + Drop>(
+        left: L,
+        right: L,
+        layers: &[Layer],
+        course: &mut Course,
+    ) -> Result<(), Fault> {
+        match layers {
+            [] => play(left, right, course),
+            [Layer::Queue, above @ ..] => {
+                H::play_under(Queue::new(left), Queue::new(right), above, course)
+            }
+            [Layer::Log, above @ ..] => {
+                H::play_under(Log::new(left), Log::new(right), above, course)
+            }
+            [Layer::Zeros, above @ ..] => {
+                H::play_under(Zeros::new(left), Zeros::new(right), above, course)
+            }
+        }
     }
 }
 
-impl<T: Layers> Layers for AddLog<T> {
-    fn play<L: Ledger + Drop>(left: L, right: L, course: &mut Course) -> Result<(), Fault> {
-        T::play(Log::new(left), Log::new(right), course)
-    }
-}
-
-impl<T: Layers> Layers for AddZeros<T> {
-    fn play<L: Ledger + Drop>(left: L, right: L, course: &mut Course) -> Result<(), Fault> {
-        T::play(Zeros::new(left), Zeros::new(right), course)
-    }
-}
-
-// A ledger may begin in any state, so its rows hold random bytes.
-fn over<K: Kind, T: Layers>(rows: &mut [K::Row], course: &mut Course) -> Result<(), Fault> {
-    course.begin();
-    scramble::<K>(rows, &mut course.random);
+fn over<K: Kind>(rows: &mut [K::Row], layers: &[Layer], course: &mut Course) -> Result<(), Fault> {
+    course.begin::<K>(rows);
     let many = rows.len().min(MANY);
     let (left, right) = rows.split_at_mut(many);
-    T::play(Bottom::<K>::new(left), Bottom::<K>::new(right), course)
+    let left = Bottom::<K>::new(left);
+    let right = Bottom::<K>::new(right);
+    <Below<Below<Below<Top>>> as Height>::play_under(left, right, layers, course)
 }
 
-fn over_kind<K: Kind, A: Layers, B: Layers, C: Layers, D: Layers>(
-    course: &mut Course,
-) -> Result<(), Fault> {
+fn over_kind<K: Kind>(stacks: &[&[Layer]], course: &mut Course) -> Result<(), Fault> {
     let rows = &mut vec![in course.memory; K::row(0); ROWS]?;
-    over::<K, A>(rows, course)?;
-    over::<K, B>(rows, course)?;
-    over::<K, C>(rows, course)?;
-    over::<K, D>(rows, course)
+    for layers in stacks {
+        over::<K>(rows, layers, course)?;
+    }
+    Ok(())
 }
+
+const QUEUE: Layer = Layer::Queue;
+
+const LOG: Layer = Layer::Log;
+
+const ZEROS: Layer = Layer::Zeros;
 
 pub fn every_stack(course: &mut Course) -> Result<(), Fault> {
-    over_kind::<
-        Exact,
-        NoMore,
-        AddQueue<NoMore>,
-        AddZeros<AddLog<NoMore>>,
-        AddQueue<AddLog<AddZeros<NoMore>>>,
-    >(course)?;
-    over_kind::<
-        Sticky,
-        AddLog<NoMore>,
-        AddZeros<NoMore>,
-        AddLog<AddQueue<NoMore>>,
-        AddZeros<AddQueue<AddLog<NoMore>>>,
-    >(course)?;
-    over_kind::<
-        Tally,
-        NoMore,
-        AddQueue<AddLog<NoMore>>,
-        AddQueue<AddZeros<NoMore>>,
-        AddLog<AddZeros<AddQueue<NoMore>>>,
-    >(course)
+    over_kind::<Exact>(
+        &[&[], &[QUEUE], &[ZEROS, LOG], &[QUEUE, LOG, ZEROS]],
+        course,
+    )?;
+    over_kind::<Sticky>(
+        &[&[LOG], &[ZEROS], &[LOG, QUEUE], &[ZEROS, QUEUE, LOG]],
+        course,
+    )?;
+    over_kind::<Tally>(
+        &[&[], &[QUEUE, LOG], &[QUEUE, ZEROS], &[LOG, ZEROS, QUEUE]],
+        course,
+    )
 }

@@ -33,7 +33,7 @@ impl Bits {
         if c == 0 || c > 1024 {
             return;
         }
-        // A cast, and no `usize::from`: it computes in the proof.
+        // A cast: with `usize::from` the proof didn't close, which no longer saw that the word is the same.
         let i = (c as usize - 1) / 64;
         let mask = 1u64 << ((c - 1) % 64);
         if on {
@@ -48,7 +48,7 @@ impl Bits {
         ensures { FirstSet self.now c result }
     {
         let from = c.saturating_sub(1) as usize;
-        // The answer is made of a word's index, and the first word begins anywhere: an iterator would have to be told both.
+        // Tried as a `find_map` too, of which it wasn't proved that it finds the first.
         for i in from / 64..16 {
             // Only in the first word are there bits to pass over.
             let skip = from.saturating_sub(64 * i) as u32;

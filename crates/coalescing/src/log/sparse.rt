@@ -32,7 +32,7 @@ impl Entries {
         requires { slot < 4096 }
         ensures { Found self.now slot result }
     {
-        // Casts, and no `usize::from`: they compute in the proof.
+        // Casts: with `usize::from` the proof didn't close, which no longer saw that the entry is the same.
         let i = self.index[slot as usize] as usize;
         if i < self.size() && self.at[i].slot == slot {
             Some(i)
