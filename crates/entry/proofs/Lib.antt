@@ -1,2 +1,3 @@
+pub mod Blame
 pub mod Lists
 pub mod Moves

@@ -29,10 +29,7 @@ pub struct Answers {
 fn is_zero<L: Ledger>(ledger: &L, cell: u16) -> bool
     ensures { (t : List ℕ) → L.Ledger.ops.Agrees ledger.now t → Settled L.Ledger.ops ledger.now → Cell (L.Ledger.ops.cells ledger.now) cell → Decides result (L.Ledger.ops.tells ledger.now cell ≡ Some 0) }
 {
-    match ledger.next_zero(cell) {
-        Some(zero) => zero == cell,
-        None => false,
-    }
+    ledger.next_zero(cell) == Some(cell)
 }
 
 // What a settled ledger tells of the part in a cell.
@@ -51,8 +48,7 @@ fn tell_all<L: Ledger>(memory: Global, ledger: &L, cells: &[u16]) -> Result<Vec<
 {
     let mut parts = Vec::new(memory);
     for cell in cells {
-        parts.reserve(1)?;
-        parts.push_reserved(tell(ledger, *cell));
+        parts.push(tell(ledger, *cell))?;
     }
     Ok(parts)
 }

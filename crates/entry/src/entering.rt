@@ -8,6 +8,7 @@ ghost use Rattle.heap.specs.States.{state};
 ghost use Rattle.parts.specs.Building.{known};
 ghost use Rattle.parts.specs.Text.{lines};
 
+use crate::cells::Cells;
 use crate::error::{Cause, EntryError, Place, Stop};
 use crate::index::{NODE, OWNER, TARGET, TOP, add, fetch, forget, put};
 use crate::locate::locate;
@@ -44,19 +45,16 @@ fn add_parts<L: Ledger>(
     memory: Global,
     heap: &mut Heap,
     ledger: &mut L,
-    count: usize,
-) -> Result<Vec<u16>, Stop>
+    count: u16,
+) -> Result<Cells, Stop>
     requires { count ≤ 1024 }
-    ensures { IfOk result (λ cells. (vec_len cells ≡ count) × Own cells.items (state heap.new) × Grown (state heap.old) (state heap.new) × Together L.Ledger.ops (state heap.old) ledger.old (state heap.new) ledger.new) }
+    ensures { IfOk result (λ cells. (length cells ≡ count) × Own cells (state heap.new) × Grown (state heap.old) (state heap.new) × Together L.Ledger.ops (state heap.old) ledger.old (state heap.new) ledger.new) }
 {
-    let mut cells = Vec::new(memory);
-    for i in 0..count {
-        let part = (i + 1) as u16;
-        cells.reserve(1)?;
-        match add(heap, ledger, part) {
-            Ok(cell) => cells.push_reserved(cell),
-            Err(refusal) => return Err(Cause::Refused(refusal).at(Place::Part(part))),
-        }
+    let mut cells = Cells::new(memory);
+    for part in 1..=count {
+        let place = Place::Part(part);
+        let cell = add(heap, ledger, part).map_err(|refusal| Cause::Refused(refusal).at(place))?;
+        cells.push(cell)?;
     }
     Ok(cells)
 }
@@ -65,7 +63,7 @@ fn add_parts<L: Ledger>(
 fn put_references<L: Ledger>(
     heap: &mut Heap,
     ledger: &mut L,
-    cells: &[u16],
+    cells: &Cells,
     slots: &[u16],
 ) -> Result<(), Stop>
     requires { length slots.now ≤ 4096 }
@@ -76,9 +74,8 @@ fn put_references<L: Ledger>(
             continue;
         }
         let slot = i as u16;
-        if let Err(cause) = put(heap, ledger, cells, slot, *content) {
-            return Err(cause.at(Place::Reference(slot / 4 + 1)));
-        }
+        let place = Place::Reference(slot / 4 + 1);
+        put(heap, ledger, cells, slot, *content).map_err(|cause| cause.at(place))?;
     }
     Ok(())
 }
@@ -87,29 +84,25 @@ fn put_references<L: Ledger>(
 fn put_edits<L: Ledger>(
     heap: &mut Heap,
     ledger: &mut L,
-    cells: &[u16],
+    cells: &Cells,
     edits: &[Edit],
 ) -> Result<(), Stop>
     ensures { OnOk result (Slotted (edited cells.now edits.now (state heap.old).graph.slots) (state heap.old) (state heap.new) × Together L.Ledger.ops (state heap.old) ledger.old (state heap.new) ledger.new) }
 {
     for (i, edit) in edits.iter().enumerate() {
-        if let Err(cause) = put(heap, ledger, cells, edit.slot, edit.content) {
-            return Err(cause.at(Place::Edit(i)));
-        }
+        let place = Place::Edit(i);
+        put(heap, ledger, cells, edit.slot, edit.content).map_err(|cause| cause.at(place))?;
     }
     Ok(())
 }
 
 // Takes every part out of the index, so that only the drawing's own references are left to count.
-fn forget_all<L: Ledger>(heap: &mut Heap, ledger: &mut L, cells: &[u16]) -> Result<(), Stop>
-    requires { length cells.now ≤ 1024 }
+fn forget_all<L: Ledger>(heap: &mut Heap, ledger: &mut L, cells: &Cells) -> Result<(), Stop>
     ensures { OnOk result (Forgotten cells.now (length cells.now) (state heap.old) (state heap.new) × Together L.Ledger.ops (state heap.old) ledger.old (state heap.new) ledger.new) }
 {
-    for i in 0..cells.len() {
-        let part = (i + 1) as u16;
-        if let Err(cause) = forget(heap, ledger, cells, part) {
-            return Err(cause.at(Place::Part(part)));
-        }
+    for part in 1..=cells.len() {
+        let place = Place::Part(part);
+        forget(heap, ledger, cells, part).map_err(|cause| cause.at(place))?;
     }
     Ok(())
 }
@@ -128,11 +121,9 @@ fn hold_owner<L: Ledger>(heap: &mut Heap, ledger: &L) -> Result<Token, Refusal>
     ensures { IfOk result (λ token. HeldBy token (root (state heap.old) 1) (state heap.old) (state heap.new)) }
 {
     let token = heap.hold(ledger, OWNER)?;
-    match heap.clear(ledger, OWNER) {
-        Ok(()) => Ok(token),
-        // The heap has cells, since it has a hold.
-        Err(_) => unreachable(),
-    }
+    // The heap has cells, since it has a hold.
+    heap.clear(ledger, OWNER).unwrap();
+    Ok(token)
 }
 
 // Holds the part in `OWNER`, if there is one, and empties every working root.
@@ -143,27 +134,18 @@ fn hold_top<L: Ledger>(heap: &mut Heap, ledger: &L) -> Result<Option<Token>, Ref
     if heap.root(OWNER) == Some(0) {
         return Ok(None);
     }
-    match hold_owner(heap, ledger) {
-        Ok(token) => Ok(Some(token)),
-        Err(refusal) => Err(refusal),
-    }
+    Ok(Some(hold_owner(heap, ledger)?))
 }
 
 // Has the top part held in place of all that the index keeps within reach.
-fn close<L: Ledger>(heap: &mut Heap, ledger: &mut L, cells: &[u16]) -> Result<Option<Token>, Stop>
-    requires { length cells.now ≤ 1024 }
+fn close<L: Ledger>(heap: &mut Heap, ledger: &mut L, cells: &Cells) -> Result<Option<Token>, Stop>
     ensures { IfOk result (λ token. Closed cells.now token (state heap.old) (state heap.new) × Together L.Ledger.ops (state heap.old) ledger.old (state heap.new) ledger.new) }
 {
     // The index has to lead there one last time. Part 0 is none.
-    let top = cells.len().min(1) as u16;
-    if let Err(cause) = fetch(heap, ledger, cells, OWNER, top) {
-        return Err(cause.at(Place::Part(top)));
-    }
+    let top = cells.len().min(1);
+    fetch(heap, ledger, cells, OWNER, top).map_err(|cause| cause.at(Place::Part(top)))?;
     forget_all(heap, ledger, cells)?;
-    match hold_top(heap, ledger) {
-        Ok(token) => Ok(token),
-        Err(refusal) => Err(Cause::Refused(refusal).at(Place::Part(top))),
-    }
+    hold_top(heap, ledger).map_err(|refusal| Cause::Refused(refusal).at(Place::Part(top)))
 }
 
 // Enters the parts, their references and the edits, and answers the cell of each part.
@@ -173,13 +155,11 @@ fn draw<L: Ledger>(
     ledger: &mut L,
     drawing: &Drawing,
     edits: &[Edit],
-) -> Result<Vec<u16>, Stop>
-    ensures { IfOk result (λ cells. Drawn L.Ledger.ops drawing.now.slots.items edits.now cells.items (state heap.new) ledger.new) }
+) -> Result<Cells, Stop>
+    ensures { IfOk result (λ cells. Drawn L.Ledger.ops drawing.now.slots.items edits.now cells (state heap.new) ledger.new) }
 {
-    if let Err(refusal) = prepare(heap, ledger) {
-        return Err(Cause::Refused(refusal).at(Place::Start));
-    }
-    let cells = add_parts(memory, heap, ledger, drawing.names().len())?;
+    prepare(heap, ledger).map_err(|refusal| Cause::Refused(refusal).at(Place::Start))?;
+    let cells = add_parts(memory, heap, ledger, drawing.names().len() as u16)?;
     put_references(heap, ledger, &cells, drawing.slots())?;
     put_edits(heap, ledger, &cells, edits)?;
     Ok(cells)
@@ -199,7 +179,7 @@ fn enter_all<L: Ledger>(
     let slots = load_all(memory, heap, ledger, &cells)?;
     let token = close(heap, ledger, &cells)?;
     Ok(Entered {
-        cells,
+        cells: cells.into_vec(),
         slots,
         token,
     })
@@ -218,6 +198,7 @@ pub fn enter<L: Ledger>(
     ensures entered { IfOk result (λ e. Entering L.Ledger.ops drawing.now.slots.items edits.now e (state heap.new) ledger.new) }
     ensures blamed { IfErr result (Blamed (known drawing.now) (lines text.now)) }
 {
+    // No `map_err`: its closure would have to state again what `locate` promises.
     match enter_all(memory, heap, ledger, drawing, edits) {
         Ok(entered) => Ok(entered),
         Err(stop) => Err(locate(memory, text, drawing, stop)),

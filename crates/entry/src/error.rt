@@ -3,7 +3,7 @@ ghost use Rattle.std.specs.Prelude.{◌≡◌, Some};
 ghost use Rattle.entry.specs.Messages.{report};
 
 use heap::Refusal;
-use std::alloc::AllocError;
+use std::alloc::AllocFailed;
 use std::error::Error;
 use std::fmt;
 
@@ -42,8 +42,8 @@ pub(crate) struct Stop {
     pub cause: Cause,
 }
 
-impl From<AllocError> for Stop {
-    fn from(_: AllocError) -> Stop {
+impl<T: Drop> From<AllocFailed<T>> for Stop {
+    fn from(_: AllocFailed<T>) -> Stop {
         Cause::Memory.at(Place::Start)
     }
 }

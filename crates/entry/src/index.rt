@@ -2,10 +2,13 @@
 //!
 //! A cell is come by only along slots. So a tree of cells of the same heap has every part within reach: each node has four
 //! children, five levels lie below its topmost node, and the digits of a part's number, less 1, in base 4 lead to it.
+//!
+//! Heap and ledger stay two parameters: methods of a struct of both `&mut` would each have to promise that it keeps the same two.
 ghost use Rattle.std.specs.Prelude.{◌≡◌, ◌+◌, ◌-◌, ◌*◌, ◌/◌, ◌%◌, ◌^◌, ◌<◌, ◌≤◌, length, IfOk, MatchOption, OnOk};
 ghost use Rattle.entry.specs.Entries.{Added, Fetched, Forgot, Grown, OnlyRoot, Slotted, Together, cell_of, put_at};
 ghost use Rattle.heap.specs.States.{state};
 
+use crate::cells::Cells;
 use crate::error::Cause;
 use heap::{Heap, Refusal};
 use ledgers::Ledger;
@@ -54,29 +57,17 @@ fn walk<L: Ledger>(heap: &mut Heap, ledger: &L, r: u8, part: u16) -> Result<(), 
     heap.load(ledger, r, r, digit(part, LAST))
 }
 
-/// The cell of a part; part 0 stands for an empty slot.
-pub(crate) fn cell_of(cells: &[u16], part: u16) -> Option<u16>
-    ensures { MatchOption result (length cells.now < part) (λ cell. (part ≤ length cells.now) × (cell ≡ cell_of cells.now part)) }
-{
-    if part == 0 {
-        return Some(0);
-    }
-    cells.get(part as usize - 1).copied()
-}
-
 /// Puts the cell of a part into root `r`, or empties the root where the part is 0.
 pub(crate) fn fetch<L: Ledger>(
     heap: &mut Heap,
     ledger: &L,
-    cells: &[u16],
+    cells: &Cells,
     r: u8,
     part: u16,
 ) -> Result<(), Cause>
     ensures { OnOk result (Fetched cells.now r part (state heap.old) (state heap.new)) }
 {
-    let Some(cell) = cell_of(cells, part) else {
-        return Err(Cause::Lost);
-    };
+    let cell = cells.cell_of(part).ok_or(Cause::Lost)?;
     walk(heap, ledger, r, part)?;
     if heap.root(r) != Some(cell) {
         return Err(Cause::Lost);
@@ -101,8 +92,7 @@ fn descend<L: Ledger>(heap: &mut Heap, ledger: &mut L, f: u8) -> Result<(), Refu
     if heap.root(TARGET) == Some(0) {
         let _node = hang(heap, ledger, f)?;
     }
-    heap.copy(ledger, NODE, TARGET)?;
-    Ok(())
+    heap.copy(ledger, NODE, TARGET)
 }
 
 /// Gives a part its cell, which hangs in the index from now on.
@@ -113,15 +103,14 @@ pub(crate) fn add<L: Ledger>(heap: &mut Heap, ledger: &mut L, part: u16) -> Resu
     for level in 0..LAST {
         descend(heap, ledger, digit(part, level))?;
     }
-    let cell = hang(heap, ledger, digit(part, LAST))?;
-    Ok(cell)
+    hang(heap, ledger, digit(part, LAST))
 }
 
 /// Slot number `slot` of the drawing gets a part, or becomes empty where that is 0.
 pub(crate) fn put<L: Ledger>(
     heap: &mut Heap,
     ledger: &mut L,
-    cells: &[u16],
+    cells: &Cells,
     slot: u16,
     content: u16,
 ) -> Result<(), Cause>
@@ -137,14 +126,12 @@ pub(crate) fn put<L: Ledger>(
 pub(crate) fn forget<L: Ledger>(
     heap: &mut Heap,
     ledger: &mut L,
-    cells: &[u16],
+    cells: &Cells,
     part: u16,
 ) -> Result<(), Cause>
     ensures { OnOk result (Forgot (cell_of cells.now part) (state heap.old) (state heap.new) × Together L.Ledger.ops (state heap.old) ledger.old (state heap.new) ledger.new) }
 {
-    let Some(cell) = cell_of(cells, part) else {
-        return Err(Cause::Lost);
-    };
+    let cell = cells.cell_of(part).ok_or(Cause::Lost)?;
     let f = digit(part, LAST);
     seek(heap, ledger, NODE, part)?;
     heap.load(ledger, TARGET, NODE, f)?;

@@ -2,6 +2,7 @@
 #![tactic(auto)]
 
 mod answers;
+mod cells;
 mod entering;
 mod error;
 mod index;

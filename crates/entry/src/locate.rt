@@ -12,9 +12,8 @@ use std::alloc::{AllocError, Global};
 fn name<'a>(drawing: &Drawing<'a>, part: u16) -> &'a [u8]
     ensures { result.now ≡ name_of (known drawing.now) part }
 {
-    let names = drawing.names();
     let i = usize::from(part).saturating_sub(1);
-    if i < names.len() { names[i] } else { b"" }
+    drawing.names().get(i).copied().unwrap_or(b"")
 }
 
 // The line of what was being entered.

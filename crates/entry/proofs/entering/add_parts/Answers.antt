@@ -1,19 +1,42 @@
-use Rattle.std.proofs.Common.{ℕ, ◌+◌, List, [], ◌∷◌, ◌++◌, vec_items, sym, ap, ◌∙◌, subst}
+use Rattle.std.proofs.Common.{◌≡◌, ℕ, ◌-◌, ◌≤◌, List, [], ◌∷◌, ◌++◌, length, sym, ap, ◌∙◌, subst, arith, rules}
 use Rattle.entry.proofs.Lists.{own_more}
 use Rattle.entry.proofs.Moves.{grown_then}
-use Rattle.entry.specs.Entries.{Own}
-use Rattle.heap.specs.States.{state}
+use Rattle.std.proofs.lemmas.List.{length_push}
+use Rattle.entry.specs.Entries.{Added, Grown, Own, Together}
+use Rattle.ledgers.specs.Meaning.{Ops}
+use Rattle.heap.specs.States.{State, state}
 use Rattle.entry.proofs.entering.add_parts.Goals as goal
+use Rattle.entry.proofs.entering.add_parts.Goals.{else-loop-part-test, then-loop-part-test+in_ok-cell+in_ok-push+else-part-count}
 
-pub loop-i-preserved : goal.loop-i-preserved
-loop-i-preserved g c =
-    let inv = c.loop-i.invariant in
-    let add = c.in-Ok.ensures in
-    let cell = c.in-Ok.cell in
-    let before = vec_items c.loop-i.cells in
-    let pushed = c.push_reserved.ensures.items ∙ ap (λ (l : List ℕ). l ++ cell ∷ []) c.reserve.ensures.items in (
-      c.push_reserved.ensures.len ∙ ap (λ (n : ℕ). n + 1) (c.reserve.ensures.len ∙ inv.0),
-      subst (λ (l : List ℕ). Own l (state c.add.new.heap)) (sym pushed) (own_more before cell (state c.loop-i.heap) (state c.add.new.heap) inv.1 add.0),
-      grown_then inv.2 add.0.grown,
-      λ h. add.1 (inv.3 h),
-    )
+-- What is known once a part was added, in an iteration that began with part k.
+more : {L : Type 0} (o : Ops L) (k cell : ℕ) (before after : List ℕ) (s m s' : State) (l n l' : L) → 1 ≤ k → length before ≡ k - 1 → Own before m → Grown s m → Together o s l m n → after ≡ before ++ cell ∷ [] → Added cell m s' × Together o m n s' l' → (length after ≡ k) × Own after s' × Grown s s' × Together o s l s' l'
+more o k cell before after s m s' l n l' least size own grown kept pushed add = (
+  (let longer = length_push before cell in let same = ap length pushed in omega arith),
+  subst (λ (xs : List ℕ). Own xs s') (sym pushed) (own_more before cell m s' own add.0),
+  grown_then grown add.0.grown,
+  λ h. add.1 (kept h),
+)
+
+pub loop-part-preserved : goal.loop-part-preserved
+loop-part-preserved g c =
+    let inv = c.loop-part.invariant in
+    let o = g.L.Ledger.ops in
+    let cell = c.in_ok-cell.cell in
+    let add : Added cell (state c.loop-part.heap) (state c.add.new.heap) × Together o (state c.loop-part.heap) c.loop-part.ledger (state c.add.new.heap) c.add.new.ledger = search rules in
+    let pushed : c.push.new.self ≡ c.loop-part.cells ++ cell ∷ [] = search rules in
+    let next = more o c.loop-part.part cell _ _ (state c.args.heap.now) _ (state c.add.new.heap) c.args.ledger.now _ c.add.new.ledger (omega arith) inv.0 inv.1 inv.2 inv.3 pushed add in
+    (next.0 ∙ omega arith, next.1, next.2, next.3, omega arith)
+
+pub returns : goal.returns
+returns g c =
+    let inv = c.loop-part.invariant in
+    let o = g.L.Ledger.ops in
+    elim c.loop-part-test.branch [
+      | else-loop-part-test w ↦ rw (w.cells-is, w.heap-is, w.ledger-is) (inv.0 ∙ omega arith, inv.1, inv.2, inv.3)
+      | then-loop-part-test+in_ok-cell+in_ok-push+else-part-count w ↦
+          let cell = w.in_ok-cell.cell in
+          let add : Added cell (state c.loop-part.heap) (state w.add.new.heap) × Together o (state c.loop-part.heap) c.loop-part.ledger (state w.add.new.heap) w.add.new.ledger = search rules in
+          let pushed : w.push.new.self ≡ c.loop-part.cells ++ cell ∷ [] = search rules in
+          let next = more o c.loop-part.part cell _ _ (state c.args.heap.now) _ (state w.add.new.heap) c.args.ledger.now _ w.add.new.ledger (omega arith) inv.0 inv.1 inv.2 inv.3 pushed add in
+          rw (w.cells-is, w.heap-is, w.ledger-is) (next.0 ∙ omega arith, next.1, next.2, next.3)
+    ]

@@ -1,24 +1,32 @@
-use Rattle.std.proofs.Common.{ℕ, ◌+◌, List, sym, refl, ◌∙◌, subst}
-use Rattle.entry.specs.Entries.{Forgets, Forgot, Forgotten, cell_of, more, none}
-use Rattle.heap.specs.States.{State, state}
+use Rattle.std.proofs.Common.{◌≡◌, ◌-◌, ℕ, length, refl, subst, arith, rules}
+use Rattle.entry.proofs.Lists.{forgotten_more}
+use Rattle.entry.specs.Entries.{Forgot, Forgotten, Together, cell_of, none}
+use Rattle.heap.specs.States.{state}
 use Rattle.entry.proofs.entering.forget_all.Goals as goal
+use Rattle.entry.proofs.entering.forget_all.Goals.{In_ok-map_err}
 
-forgotten-more : (cells : List ℕ) (k : ℕ) (s m s' : State) → Forgotten cells k s m → Forgot (cell_of cells (k + 1)) m s' → Forgotten cells (k + 1) s s'
-forgotten-more cells k s m s' before last = record {
-  cells_kept = last.now_empty.cells ∙ before.cells_kept;
-  slots = subst (Forgets cells (k + 1) s.graph.slots) (sym last.now_empty.slots) (more before.slots last.slot last.was);
-  holds = last.now_empty.holds ∙ before.holds;
-  used = last.now_empty.used ∙ before.used;
-  owner = last.owner ∙ before.owner;
-}
+pub loop-part-init : goal.loop-part-init
+loop-part-init g c = (record { cells_kept = refl; slots = none; holds = refl; used = refl; owner = refl }, λ h. h, omega arith)
 
-pub loop-i-init : goal.loop-i-init
-loop-i-init g c = (record { cells_kept = refl; slots = none; holds = refl; used = refl; owner = refl }, λ h. h)
+pub loop-part-preserved : goal.loop-part-preserved
+loop-part-preserved g c =
+    let forgot : Forgot (cell_of c.args.cells.now c.loop-part.part) (state c.loop-part.heap) (state c.forget.new.heap) × Together g.L.Ledger.ops (state c.loop-part.heap) c.loop-part.ledger (state c.forget.new.heap) c.forget.new.ledger = search rules in
+    let inv = c.loop-part.invariant in (
+      forgotten_more _ c.loop-part.part _ _ (state c.loop-part.heap) _ (omega arith) (omega arith) inv.0 forgot.0,
+      λ h. forgot.1 (inv.1 h),
+      omega arith,
+    )
 
-pub loop-i-preserved : goal.loop-i-preserved
-loop-i-preserved g c =
-    let forgot = c.in_default.ensures in
-    let inv = c.loop-i.invariant in (
-      forgotten-more c.args.cells.now c.loop-i.i (state c.args.heap.now) (state c.loop-i.heap) (state c.forget.new.heap) inv.0 forgot.0,
+pub returns-in_ok-map_err : goal.returns-in_ok-map_err
+returns-in_ok-map_err g c =
+    let forgot : Forgot (cell_of c.args.cells.now c.loop-part.part) (state c.loop-part.heap) (state c.forget.new.heap) × Together g.L.Ledger.ops (state c.loop-part.heap) c.loop-part.ledger (state c.forget.new.heap) c.forget.new.ledger = search rules in
+    let inv = c.loop-part.invariant in (
+      forgotten_more _ c.loop-part.part _ _ (state c.loop-part.heap) _ (omega arith) (omega arith) inv.0 forgot.0,
       λ h. forgot.1 (inv.1 h),
     )
+
+pub returns : goal.returns
+returns g c =
+    let inv = c.loop-part.invariant in
+    let all : c.loop-part.part - 1 ≡ length c.args.cells.now = omega (arith, inv.2) in
+    (subst (λ (k : ℕ). Forgotten c.args.cells.now k (state c.args.heap.now) (state c.loop-part.heap)) all inv.0, inv.1)
