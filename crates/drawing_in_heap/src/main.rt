@@ -1,15 +1,12 @@
 //! Reads a drawing and edits of it from standard input, enters it into a heap through the heap's calls, and prints what heap and ledger answer.
 #![tactic(auto)]
 
-ghost use Rattle.entry.specs.Entries.{Accepted};
-ghost use Rattle.heap.specs.States.{state};
-
 mod show;
 
 use coalescing::Log;
 use counts::{Count, Exact, ExactRow};
 use entry::{Answers, Entered};
-use heap::{Heap, Token};
+use heap::Heap;
 use ledgers::{Bottom, Ledger};
 use parts::{Drawing, Edit};
 use queue::Queue;
@@ -31,31 +28,17 @@ fn print_parts(
     answers: &Answers,
 ) -> anyhow::Result<()> {
     println!(rt; "waiting before settle: {}", answers.waiting)?;
-    let told = cells.iter().zip(answers.parts.iter());
-    for ((name, (cell, told)), slots) in names.iter().zip(told).zip(slots.chunks(4)) {
+    let parts = answers.parts.iter();
+    for (((name, cell), told), slots) in names.iter().zip(cells).zip(parts).zip(slots.chunks(4)) {
         let line = part_line(rt.alloc(), name, *told, slots, names)?;
         println!(rt; "cell {cell}, {line}")?;
     }
     println!(rt; "nobody points to:")?;
-    for (name, told) in names.iter().zip(answers.parts.iter()) {
-        if told.bare {
-            println!(rt; "{}", str::from_utf8(name)?)?;
-        }
+    let parts = answers.parts.iter();
+    for (name, _) in names.iter().zip(parts).filter(|(_, told)| told.bare) {
+        println!(rt; "{}", str::from_utf8(name)?)?;
     }
     Ok(())
-}
-
-// Takes the token back. Its hold is open, as nothing was released since.
-fn release<L: Ledger>(heap: &mut Heap, ledger: &L, token: Option<Token>)
-    requires { Accepted token (state heap.old) }
-{
-    match token {
-        None => {}
-        Some(token) => match heap.release(ledger, token) {
-            Ok(()) => {}
-            Err(_) => unreachable(),
-        },
-    }
 }
 
 // Settles the ledger, and prints what it and the heap answered, and the heap itself.
@@ -106,7 +89,10 @@ fn enter_and_print<L: Ledger>(
         token,
     } = entry::enter(rt.alloc(), &mut heap, ledger, text, drawing, edits)?;
     let printed = print_answers(rt, &heap, ledger, drawing.names(), &cells, &slots);
-    release(&mut heap, ledger, token);
+    // The hold is open, as nothing was released since.
+    if let Some(token) = token {
+        heap.release(ledger, token).unwrap();
+    }
     printed?;
     print_completed(rt, &heap, drawing, edits.len())
 }

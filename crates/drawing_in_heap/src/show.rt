@@ -16,7 +16,7 @@ fn counted(memory: Global, references: Option<u16>) -> Result<String, AllocError
 fn targets(memory: Global, slots: &[u16], names: &[&[u8]]) -> anyhow::Result<String> {
     let mut line = String::new(memory);
     for part in slots {
-        if let Some(name) = names.get((*part as usize).wrapping_sub(1)) {
+        if let Some(name) = usize::from(*part).checked_sub(1).and_then(|i| names.get(i)) {
             line.push_str(" ")?;
             line.push_str(str::from_utf8(name)?)?;
         }

@@ -1,15 +1,12 @@
 //! Drawings in a heap, through a queue over a log over a zero table over exact counts.
 #![tactic(auto)]
 
-ghost use Rattle.entry.specs.Entries.{Accepted};
-ghost use Rattle.heap.specs.States.{state};
-
 #[cfg(test)]
 mod tests {
     use coalescing::Log;
     use counts::{Count, Exact, ExactRow};
     use entry::{Answers, Entered, EntryError, ask, enter};
-    use heap::{Heap, Token};
+    use heap::Heap;
     use ledgers::{Bottom, Ledger};
     use parts::{read, read_edits};
     use queue::Queue;
@@ -27,18 +24,6 @@ mod tests {
         cells_in_use: u16,
     }
 
-    fn release<L: Ledger>(heap: &mut Heap, ledger: &L, token: Option<Token>)
-        requires { Accepted token (state heap.old) }
-    {
-        match token {
-            None => {}
-            Some(token) => match heap.release(ledger, token) {
-                Ok(()) => {}
-                Err(_) => unreachable(),
-            },
-        }
-    }
-
     // The drawing of a text, or why it was not entered.
     fn play<L: Ledger>(
         memory: Global,
@@ -48,27 +33,26 @@ mod tests {
         let drawing = read(memory, text)?;
         let edits = read_edits(memory, text, &drawing)?;
         let mut heap = Heap::new();
-        match enter(memory, &mut heap, ledger, text, &drawing, &edits) {
-            Ok(
-                Entered {
-                    cells,
-                    slots,
-                    token,
-                },
-            ) => {
-                let was_held = token.is_some();
-                release(&mut heap, ledger, token);
-                let answers = ask(memory, ledger, &cells)?;
-                let cells_in_use = heap.live();
-                Ok(Ok(Outcome {
-                    slots,
-                    answers,
-                    was_held,
-                    cells_in_use,
-                }))
-            }
-            Err(error) => Ok(Err(error)),
+        let Entered {
+            cells,
+            slots,
+            token,
+        } = match enter(memory, &mut heap, ledger, text, &drawing, &edits) {
+            Ok(entered) => entered,
+            Err(error) => return Ok(Err(error)),
+        };
+        let was_held = token.is_some();
+        if let Some(token) = token {
+            heap.release(ledger, token).unwrap();
         }
+        let answers = ask(memory, ledger, &cells)?;
+        let cells_in_use = heap.live();
+        Ok(Ok(Outcome {
+            slots,
+            answers,
+            was_held,
+            cells_in_use,
+        }))
     }
 
     fn draw(memory: Global, text: &[u8]) -> Result<Result<Outcome, EntryError>, Fail> {

@@ -1,6 +1,6 @@
-use Rattle.std.proofs.Common.{◌≡◌, ◌-◌, ℕ, length, refl, subst, arith, rules}
+use Rattle.std.proofs.Common.{refl, arith, rules}
 use Rattle.entry.proofs.Lists.{forgotten_more}
-use Rattle.entry.specs.Entries.{Forgot, Forgotten, Together, cell_of, none}
+use Rattle.entry.specs.Entries.{Forgot, Together, cell_of, none}
 use Rattle.heap.specs.States.{state}
 use Rattle.entry.proofs.entering.forget_all.Goals as goal
 use Rattle.entry.proofs.entering.forget_all.Goals.{In_ok-map_err}
@@ -24,9 +24,3 @@ returns-in_ok-map_err g c =
       forgotten_more _ c.loop-part.part _ _ (state c.loop-part.heap) _ (omega arith) (omega arith) inv.0 forgot.0,
       λ h. forgot.1 (inv.1 h),
     )
-
-pub returns : goal.returns
-returns g c =
-    let inv = c.loop-part.invariant in
-    let all : c.loop-part.part - 1 ≡ length c.args.cells.now = omega (arith, inv.2) in
-    (subst (λ (k : ℕ). Forgotten c.args.cells.now k (state c.args.heap.now) (state c.loop-part.heap)) all inv.0, inv.1)
