@@ -98,6 +98,7 @@ KINDS = {
     "enums": lambda: found(r"^ *(pub(\(crate\))? )?enum \w+"),
     "handed-on": lambda: found(
         r"else \{\s*return (None|Err\([^;]*\)|Ok\(None\));|Ok\(\w*\) => (Ok|Some)\([^)\n]*\)+|Err\(\w+\) => (return )?Err\([^;\n]*"
+        r"|\bif [^{;]*\{ Some\([^}]*\) \} else \{ None \}|\{\s*Some\([^;{}]*\)\s*\} else \{\s*None\s*\}|\{\s*None\s*\} else \{\s*Some\([^;{}]*\)\s*\}"
         r"|None => (return )?(None|Err)[^,\n]*|Some\(\w+\) => (Some|Ok)\([^)\n]*\)|if let (Err|Some)\(\w+\) = [^{]*\{\s*return (Err|Ok|Some)[^;]*;"
     ),
     "numbers-for-kinds": lambda: found(r"\.number\(\)|fn \w+\(.*-> (u8|\(u8, \w+\))|Refused\(u8\)|\[\w+; 12\]|=> Some\(\d+\)"),

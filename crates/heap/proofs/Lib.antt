@@ -6,3 +6,4 @@ pub mod Searches
 pub mod WellFormed
 pub mod Keeping
 pub mod Pictures
+pub mod Releases

@@ -5,6 +5,7 @@ ghost use Rattle.heap.specs.Bits.{FirstClear, Put, flags, is_set};
 use std::marker::Model;
 
 /// A bit for each of the cells that a heap may have. A clause sees its bytes.
+// The zero table has words of 64 bits, in which it finds the next; a heap's maps lie in bytes, as their format says.
 #[derive(Drop)]
 pub struct Bits {
     bytes: [u8; 128],

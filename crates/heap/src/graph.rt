@@ -5,6 +5,7 @@ use crate::bits::Bits;
 
 /// The tables of a heap of `n` cells. Slot `f` of cell `c` stands at `4 * (c - 1) + f`; a slot, a root or a hold contains 0 or a cell.
 /// `used` and `suspects` have a bit for each cell. `last` is the cell that was given out last, 0 before the first.
+// A rule of the project: a heap has fixed tables, and takes no memory.
 #[derive(Drop)]
 pub struct Graph {
     pub n: u16,

@@ -110,21 +110,10 @@ mod tests {
         Ok(())
     }
 
-    // Takes an open token back. A `let .. else` would let go of the token in a refused release, which nothing may.
-    fn take_back<L: Ledger>(heap: &mut Heap, ledger: &L, token: Token)
-        requires { cause_of (release_checks (state heap.old) token) ≡ None }
-        ensures { state heap.new ≡ with_hold (state heap.old) token.hold 0 }
-    {
-        match heap.release(ledger, token) {
-            Ok(()) => {}
-            Err(_) => unreachable(),
-        }
-    }
-
     // A second release of one token doesn't compile. Another hold is taken in its place.
     fn hold_once<L: Ledger>(heap: &mut Heap, ledger: &L) -> Result<(), Refusal> {
         let token = heap.hold(ledger, 0)?;
-        take_back(heap, ledger, token);
+        heap.release(ledger, token).unwrap();
         Ok(())
     }
 
@@ -166,11 +155,11 @@ mod tests {
         ensures { right.new ≡ right.old }
     {
         if right.is_open(&token) {
-            take_back(left, ledger, token);
+            left.release(ledger, token).unwrap();
             return Ok(());
         }
         let Unreleased { cause, token } = offer(right, ledger, token);
-        take_back(left, ledger, token);
+        left.release(ledger, token).unwrap();
         Err(cause)
     }
 
@@ -180,11 +169,11 @@ mod tests {
         match right.hold(ledger, 0) {
             Ok(theirs) => {
                 let outcome = offer_elsewhere(left, right, ledger, ours);
-                take_back(right, ledger, theirs);
+                right.release(ledger, theirs).unwrap();
                 outcome
             }
             Err(refusal) => {
-                take_back(left, ledger, ours);
+                left.release(ledger, ours).unwrap();
                 Err(refusal)
             }
         }
@@ -218,7 +207,7 @@ mod tests {
         }
         let token = heap.hold(ledger, 0)?;
         let outcome = nest(heap, ledger, holds - 1);
-        take_back(heap, ledger, token);
+        heap.release(ledger, token).unwrap();
         outcome
     }
 

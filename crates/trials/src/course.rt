@@ -34,6 +34,7 @@ impl fmt::Display for Fault {
     }
 }
 
+// The other trials count other things: what the two share is a few fields, and no function.
 #[derive(Drop)]
 pub struct Course {
     pub memory: Global,

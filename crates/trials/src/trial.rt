@@ -1,7 +1,5 @@
 //! Random calls on two heaps side by side, each with a ledger of its own. Either may be brought the tokens of both.
-ghost use Rattle.std.specs.Prelude.{◌≡◌, [], None};
-ghost use Rattle.heap.specs.Calls.{open_token, release_checks, with_hold};
-ghost use Rattle.heap.specs.Refusals.{cause_of};
+ghost use Rattle.std.specs.Prelude.{◌≡◌, []};
 ghost use Rattle.heap.specs.States.{state};
 ghost use Rattle.trials.specs.Tokens.{Balanced, Moves, NoneOpen};
 
@@ -10,21 +8,10 @@ use super::compare::{heap_agrees, heap_answers, ledger_agrees, ledger_answers};
 use super::course::{Course, Fault};
 use super::kept::Kept;
 use super::model::{Answer, Model};
-use heap::{Heap, Token, Unreleased};
+use heap::{Heap, Unreleased};
 use ledgers::Ledger;
 
 const ROUNDS: u32 = 256;
-
-// Takes an open token back. A match: an `Unreleased` may not be let go, so that no `let .. else` can be written.
-fn take_back<L: Ledger>(heap: &mut Heap, ledger: &L, token: Token)
-    requires { cause_of (release_checks (state heap.old) token) ≡ None }
-    ensures { state heap.new ≡ with_hold (state heap.old) token.hold 0 }
-{
-    match heap.release(ledger, token) {
-        Ok(()) => {}
-        Err(_) => unreachable(),
-    }
-}
 
 /// Plays rounds, each with two new heaps.
 pub fn play<L: Ledger + Drop>(left: L, right: L, course: &mut Course) -> Result<(), Fault> {
@@ -107,9 +94,9 @@ impl<L: Ledger> Pair<L> {
         ) = tokens.pop()
         {
             if self.left.heap.is_open(&token) {
-                take_back(&mut self.left.heap, &self.left.ledger, token);
+                self.left.heap.release(&self.left.ledger, token).unwrap();
             } else {
-                take_back(&mut self.right.heap, &self.right.ledger, token);
+                self.right.heap.release(&self.right.ledger, token).unwrap();
             }
         }
     }

@@ -115,14 +115,14 @@ impl<L: Ledger> Ledger for Log<L> {
     }
 
     fn number(&self, c: u16) -> Option<u16> {
-        if self.waiting() > 0 {
+        if self.waiting() != 0 {
             return None;
         }
         self.below.number(c)
     }
 
     fn next_zero(&self, c: u16) -> Option<u16> {
-        if self.waiting() > 0 {
+        if self.waiting() != 0 {
             return None;
         }
         self.below.next_zero(c)

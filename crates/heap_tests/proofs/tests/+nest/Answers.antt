@@ -1,5 +1,6 @@
 use Rattle.std.proofs.Common.{◌≡◌, ℕ, List, get_or, set, sym, ap, ◌∙◌, set-set}
 use lib.Seq.{set-get_or}
+use Rattle.heap.proofs.Releases.{released}
 use Rattle.heap.specs.States.{State, state}
 use Rattle.heap_tests.proofs.tests.+nest.Goals as goal
 
@@ -11,7 +12,7 @@ pub returns : goal.returns
 returns g t c =
     let held = c.in_ok-token.ensures.does in
     let opened = held.0.state in
-    let closed = c.take_back.ensures in
+    let closed = released g.L.Ledger.ops c.in_ok-token.token (state c.nest-outcome.new.heap) (state c.release.new.self) c.args.ledger.now c.release.result c.unwrap.ensures c.release.ensures.does in
     let k = c.in_ok-token.token.hold in
     record {
       cells = ap (λ (s : State). s.graph.cells) closed ∙ c.nest-outcome.ensures.cells ∙ ap (λ (s : State). s.graph.cells) opened;
