@@ -28,16 +28,17 @@ pub fn ledger_answers(n: u16) -> u32 {
 
 /// Whether a settled ledger tells what it has to.
 pub fn ledger_agrees<L: Ledger>(ledger: &L, model: &Model) -> bool {
-    let mut agrees = ledger.waiting() == 0 && ledger.cells() == model.n;
+    // The last cell told 0 so far, from the end on.
     let mut next = None;
-    for c in (0..=model.n.saturating_add(1)).rev() {
-        let told = ledger.number(c);
-        if told == Some(0) {
-            next = Some(c);
-        }
-        agrees = agrees && is_right(told, c, model, L::top()) && ledger.next_zero(c) == next;
-    }
-    agrees
+    ledger.waiting() == 0
+        && ledger.cells() == model.n
+        && (0..=model.n.saturating_add(1)).rev().all(|c| {
+            let told = ledger.number(c);
+            if told == Some(0) {
+                next = Some(c);
+            }
+            is_right(told, c, model, L::top()) && ledger.next_zero(c) == next
+        })
 }
 
 // A told number is that of the slots that hold the cell. One is told of every cell where the ceiling, `top`, is at least the number of slots.

@@ -16,6 +16,7 @@ const FEW: usize = 40;
 const ROWS: usize = MANY + FEW;
 
 /// How many layers may be put on two ledgers. Each makes another type, so that the most have to be known beforehand.
+// The other trials have this with one ledger. Tried for an array of them too: the check can't state a trait with a const parameter.
 trait Height {
     /// Plays with the ledgers under these layers, the lowest first. Those past the height are left out.
     fn play_under<L: Ledger + Drop>(
