@@ -1,14 +1,20 @@
 -- The line of the text at which entering it stopped.
-use Rattle.std.specs.Prelude.{◌≡◌, ℕ, ◌-◌, List, [], Some, None, Option, slice_index_or}
+use Rattle.std.specs.Prelude.{◌≡◌, ℕ, ◌-◌, ◌≢◌, ◌⊎◌, List, [], Some, None, Option, slice_index_or}
 use Rattle.entry.specs.declared.error.Cause.{Cause}
 use Rattle.entry.specs.declared.error.Cause.TheVariants.{Refused as Turned, Lost as Astray, Memory as Short}
 use Rattle.entry.specs.declared.error.EntryError.{EntryError}
 use Rattle.entry.specs.declared.error.EntryError.TheVariants.{Refused, Unready, Lost, Memory}
 use Rattle.entry.specs.declared.error.Place.{Place}
 use Rattle.entry.specs.declared.error.Place.TheVariants.{Start, Part, Reference, Edit}
+use Rattle.entry.specs.declared.error.Stop.{Stop}
+use Rattle.heap.specs.Calls.{size_checks}
+use Rattle.heap.specs.Refusals.{cause_of}
+use Rattle.heap.specs.States.{State}
+use Rattle.ledgers.specs.Meaning.{Ops}
 use Rattle.parts.specs.Finds.{Finds}
 use Rattle.parts.specs.Text.{Bytes}
 use Rattle.parts.specs.declared.lookup.LineKind.TheVariants.{Mention, Description, Edit as AnEdit}
+use Rattle.refusals.specs.declared.refusal.Refusal.{Refusal}
 
 -- The name of a part: parts are numbered from 1.
 abbrev pub name_of : List Bytes → ℕ → Bytes
@@ -36,3 +42,23 @@ Blamed names ls (Refused line refusal) = (place : Place) × LineOf names ls plac
 Blamed names ls (Unready refusal) = Unit {0}
 Blamed names ls Lost = Unit {0}
 Blamed names ls Memory = Unit {0}
+
+-- A call was refused while something of the text was being entered.
+abbrev pub Placed : Stop → Type 0
+Placed stop = (refusal : Refusal) → stop.cause ≡ Turned refusal → stop.place ≢ Start
+
+module _ {L : Type 0} (o : Ops L) where
+  -- Why the heap can't be given its 1,024 cells, if it can't.
+  abbrev pub unready : State → L → Option Refusal
+  unready s l = cause_of (size_checks (o.capacity l) s 1024)
+
+  -- A call that was refused while nothing of the text was being entered is the one that gives the heap its cells.
+  abbrev pub Halted : State → L → Stop → Type 0
+  Halted s l stop = (refusal : Refusal) → stop.cause ≡ Turned refusal → stop.place ≡ Start → unready s l ≡ Some refusal
+
+  -- A refusal is told without a line only where the heap can't be given its cells, or where the text has no line for what was being entered.
+  abbrev pub Unblamed : List Bytes → List Bytes → State → L → EntryError → Type 0
+  Unblamed names ls s l (Unready refusal) = (unready s l ≡ Some refusal) ⊎ ((place : Place) × (place ≢ Start) × LineOf names ls place None)
+  Unblamed names ls s l (Refused line refusal) = Unit {0}
+  Unblamed names ls s l Lost = Unit {0}
+  Unblamed names ls s l Memory = Unit {0}

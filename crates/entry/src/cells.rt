@@ -2,7 +2,7 @@
 ghost use Rattle.std.specs.Prelude.{◌≡◌, ◌<◌, ◌≤◌, [], ◌∷◌, ◌++◌, length, IfSome, MatchOption, OnOk};
 ghost use Rattle.entry.specs.Entries.{cell_of};
 
-use std::alloc::{AllocFailed, Global};
+use std::alloc::{AllocError, AllocFailed, Global};
 use std::marker::Model;
 
 /// The cell of each part, in the order of the parts' numbers. There are at most as many as a heap can have.
@@ -37,6 +37,13 @@ impl Cells {
         ensures few { length self.now ≤ 1024 }
     {
         self.cells.len() as u16
+    }
+
+    /// Takes memory for one more cell.
+    pub(crate) fn reserve(&mut self) -> Result<(), AllocError>
+        ensures { self.new ≡ self.old }
+    {
+        self.cells.reserve(1)
     }
 
     /// Gives the next part its cell.

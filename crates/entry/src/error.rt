@@ -1,9 +1,11 @@
 //! Why a drawing was not entered.
 ghost use Rattle.std.specs.Prelude.{◌≡◌, Some};
 ghost use Rattle.entry.specs.Messages.{report};
+ghost use Rattle.entry.specs.declared.error.Cause.TheVariants.{Memory as Short};
+ghost use Rattle.entry.specs.declared.error.Place.TheVariants.{Start};
 
 use heap::Refusal;
-use std::alloc::AllocFailed;
+use std::alloc::{AllocError, AllocFailed};
 use std::error::Error;
 use std::fmt;
 
@@ -42,7 +44,17 @@ pub(crate) struct Stop {
     pub cause: Cause,
 }
 
+impl From<AllocError> for Stop {
+    ghost from_gives = { λ _ r. (r.place ≡ Start) × (r.cause ≡ Short) };
+
+    fn from(_: AllocError) -> Stop {
+        Cause::Memory.at(Place::Start)
+    }
+}
+
 impl<T: Drop> From<AllocFailed<T>> for Stop {
+    ghost from_gives = { λ _ r. (r.place ≡ Start) × (r.cause ≡ Short) };
+
     fn from(_: AllocFailed<T>) -> Stop {
         Cause::Memory.at(Place::Start)
     }

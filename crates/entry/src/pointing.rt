@@ -1,6 +1,7 @@
 //! What the parts point to, by load.
-ghost use Rattle.std.specs.Prelude.{◌≡◌, ◌*◌, ◌<◌, ◌≤◌, length, IfSome, IfOk};
+ghost use Rattle.std.specs.Prelude.{◌≡◌, ◌*◌, ◌<◌, ◌≤◌, length, IfOk, MatchResult};
 ghost use Rattle.entry.specs.Entries.{OnlyRoots, Pointing, Points, cell_of};
+ghost use Rattle.entry.specs.Located.{Placed};
 ghost use Rattle.heap.specs.States.{state};
 
 use crate::cells::Cells;
@@ -27,13 +28,14 @@ pub(crate) fn load_all<L: Ledger>(
     ledger: &L,
     cells: &Cells,
 ) -> Result<Vec<u16>, Stop>
-    ensures { IfOk result (λ parts. Pointing cells.now (state heap.old).graph.slots (4 * length cells.now) parts.items × OnlyRoots (state heap.old) (state heap.new)) }
+    ensures { MatchResult result (λ parts. Pointing cells.now (state heap.old).graph.slots (4 * length cells.now) parts.items × OnlyRoots (state heap.old) (state heap.new)) Placed }
 {
     let mut parts = Vec::new(memory);
     for slot in 0..4 * cells.len() {
         let place = Place::Reference(slot / 4 + 1);
+        parts.reserve(1)?;
         let part = load_part(heap, ledger, cells, slot).map_err(|cause| cause.at(place))?;
-        parts.push(part)?;
+        parts.push_reserved(part);
     }
     Ok(parts)
 }

@@ -6,4 +6,3 @@ pub mod Searches
 pub mod WellFormed
 pub mod Keeping
 pub mod Pictures
-pub mod Releases

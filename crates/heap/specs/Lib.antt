@@ -7,3 +7,4 @@ pub mod Refusals
 pub mod Calls
 pub mod Keeps
 pub mod Pictures
+pub mod ReleaseLaws

@@ -62,8 +62,8 @@ impl<'a, K: Count> Ledger for Bottom<'a, K> {
         if old == new || !in_range(self.n, slot, old, new) {
             return;
         }
-        rows::change::<K, _>(self.rows, old, K::down);
-        rows::change::<K, _>(self.rows, new, K::up);
+        rows::lower::<K>(self.rows, old);
+        rows::raise::<K>(self.rows, new);
     }
 
     fn settle(&mut self) {}

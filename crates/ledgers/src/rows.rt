@@ -1,6 +1,6 @@
 //! Counts in a memory of rows, where cell `c` lies at `c - 1`. A number that is no cell there changes nothing.
 ghost use Rattle.std.specs.Prelude.{◌≡◌, ℕ, ◌≤◌, ◌++◌, map, length, drop, replicate, Some, None, Option, slice_index_or};
-ghost use Rattle.ledgers.specs.Bottoms.{changed, counts_of};
+ghost use Rattle.ledgers.specs.Bottoms.{changed, counts_of, less, more};
 ghost use Rattle.ledgers.specs.Rows.{FirstZero, Placed};
 
 use counts::Count;
@@ -41,6 +41,18 @@ pub(crate) fn change<K: Count, F: FnOnce(K) -> K>(rows: &mut [K::Row], c: u16, s
     if let Some(i) = place(c, rows.len()) {
         rows[i] = step(K::from_row(rows[i])).to_row();
     }
+}
+
+pub(crate) fn lower<K: Count>(rows: &mut [K::Row], c: u16)
+    ensures { counts_of K.Count.reads rows.new ≡ less c (counts_of K.Count.reads rows.old) }
+{
+    change::<K, _>(rows, c, K::down);
+}
+
+pub(crate) fn raise<K: Count>(rows: &mut [K::Row], c: u16)
+    ensures { counts_of K.Count.reads rows.new ≡ more K.Count.ceiling c (counts_of K.Count.reads rows.old) }
+{
+    change::<K, _>(rows, c, K::up);
 }
 
 // Makes the first `n` counts new.

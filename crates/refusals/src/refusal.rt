@@ -7,7 +7,7 @@ use std::fmt;
 /// The causes, in the order in which a call tests for them. A refused call changes nothing.
 #[derive(Clone, Copy, Debug, PartialEq, Eq)]
 pub enum Refusal {
-    Cells = 1,
+    Cells,
     Root,
     Slot,
     Memory,
@@ -25,7 +25,7 @@ impl Refusal {
     pub fn number(self) -> u8
         ensures { result ≡ number self }
     {
-        self as u8
+        self as u8 + 1
     }
 }
 

@@ -1,5 +1,6 @@
 //! Where the trials are, and what they came to so far.
-use super::model::Answer;
+use super::model::{Answer, number};
+use heap::Refusal;
 use std::alloc::{AllocError, Global};
 use std::fmt;
 use trial_tools::{Kind, Random};
@@ -90,6 +91,8 @@ impl Course {
         }
         self.step = self.step.saturating_add(1);
         self.calls = self.calls.saturating_add(1);
-        self.expect(Fault::Answer, 1, heard == expected)
+        // A cause by its number: that of the heap against that of the rules.
+        let is_right = heard.map_err(Refusal::number) == expected.map_err(number);
+        self.expect(Fault::Answer, 1, is_right)
     }
 }

@@ -6,6 +6,23 @@ use std::alloc::{AllocError, Global};
 /// What a call comes to: the cell that it gives out, if it gives one, or why it is refused.
 pub type Answer = Result<Option<u16>, Refusal>;
 
+/// The number of a cause by the rules, with which the heap's own is compared.
+pub fn number(cause: Refusal) -> u8 {
+    match cause {
+        Refusal::Cells => 1,
+        Refusal::Root => 2,
+        Refusal::Slot => 3,
+        Refusal::Memory => 4,
+        Refusal::Unsized => 5,
+        Refusal::Sized => 6,
+        Refusal::Ledger => 7,
+        Refusal::Full => 8,
+        Refusal::Empty => 9,
+        Refusal::Holds => 10,
+        Refusal::Token => 11,
+    }
+}
+
 // Where a content stands: a root, a hold, or a slot of a cell.
 #[derive(Clone, Copy)]
 enum Place {
@@ -82,13 +99,14 @@ impl Model {
     }
 
     pub fn live(&self) -> usize {
-        self.cells.iter().filter(|cell| cell.is_used).count()
+        let cells = self.cells.iter().take(1 + usize::from(self.n));
+        cells.filter(|cell| cell.is_used).count()
     }
 
     /// How many slots contain `c`.
     pub fn holders(&self, c: u16) -> usize {
         let mut found = 0usize;
-        for cell in self.cells.iter() {
+        for cell in self.cells.iter().take(1 + usize::from(self.n)) {
             let here = cell.slots.iter().filter(|content| **content == c).count();
             found = found.saturating_add(here);
         }

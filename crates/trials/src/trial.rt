@@ -1,5 +1,5 @@
 //! Random calls on two heaps side by side, each with a ledger of its own. Either may be brought the tokens of both.
-ghost use Rattle.std.specs.Prelude.{◌≡◌, []};
+ghost use Rattle.std.specs.Prelude.{◌≡◌, [], IfOk};
 ghost use Rattle.heap.specs.States.{state};
 ghost use Rattle.trials.specs.Tokens.{Balanced, Moves, NoneOpen};
 
@@ -114,6 +114,7 @@ impl<L: Ledger> Side<L> {
     fn new(ledger: L, course: &Course) -> Result<Side<L>, Fault>
     where
         L: Drop,
+        ensures { IfOk result (λ s. NoneOpen (state s.heap)) }
     {
         Ok(Side {
             ledger,

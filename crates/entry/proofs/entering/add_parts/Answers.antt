@@ -1,12 +1,18 @@
-use Rattle.std.proofs.Common.{◌≡◌, ℕ, ◌-◌, ◌≤◌, List, [], ◌∷◌, ◌++◌, length, sym, ap, ◌∙◌, subst, arith, rules}
+use Rattle.std.proofs.Common.{◌≡◌, ℕ, ◌-◌, ◌≤◌, List, [], ◌∷◌, ◌++◌, length, Ok, Err, Result, MatchResult, IsErrAnd, sym, ap, ◌∙◌, subst, arith, rules}
 use Rattle.entry.proofs.Lists.{own_more}
 use Rattle.entry.proofs.Moves.{grown_then}
 use Rattle.std.proofs.lemmas.List.{length_push}
+use Rattle.std.proofs.lemmas.Result.{err_from_is_err_and, MatchResult-at_ok}
 use Rattle.entry.specs.Entries.{Added, Grown, Own, Together}
 use Rattle.ledgers.specs.Meaning.{Ops}
 use Rattle.heap.specs.States.{State, state}
 use Rattle.entry.proofs.entering.add_parts.Goals as goal
-use Rattle.entry.proofs.entering.add_parts.Goals.{else-loop-part-test, then-loop-part-test+in_ok-cell+in_ok-push+else-part-count}
+use Rattle.entry.proofs.entering.add_parts.Goals.{else-loop-part-test, then-loop-part-test+in_ok-reserve+in_ok-cell+in_ok-push+else-part-count}
+
+-- What `map_err` hands on is what it was given.
+mapped_ok : {X E F : Type 0} (post : E → F → Type 0) (r : Result X E) (s : Result X F) → MatchResult r (λ v. s ≡ Ok v) (λ e. IsErrAnd s (post e)) → (x : X) → s ≡ Ok x → r ≡ Ok x
+mapped_ok post (Ok v) s h x is = cc
+mapped_ok post (Err e) s h x is = let p = err_from_is_err_and s h in cc p.1
 
 -- What is known once a part was added, in an iteration that began with part k.
 more : {L : Type 0} (o : Ops L) (k cell : ℕ) (before after : List ℕ) (s m s' : State) (l n l' : L) → 1 ≤ k → length before ≡ k - 1 → Own before m → Grown s m → Together o s l m n → after ≡ before ++ cell ∷ [] → Added cell m s' × Together o m n s' l' → (length after ≡ k) × Own after s' × Grown s s' × Together o s l s' l'
@@ -33,9 +39,10 @@ returns g c =
     let o = g.L.Ledger.ops in
     elim c.loop-part-test.branch [
       | else-loop-part-test w ↦ rw (w.cells-is, w.heap-is, w.ledger-is) (inv.0 ∙ omega arith, inv.1, inv.2, inv.3)
-      | then-loop-part-test+in_ok-cell+in_ok-push+else-part-count w ↦
+      | then-loop-part-test+in_ok-reserve+in_ok-cell+in_ok-push+else-part-count w ↦
           let cell = w.in_ok-cell.cell in
-          let add : Added cell (state c.loop-part.heap) (state w.add.new.heap) × Together o (state c.loop-part.heap) c.loop-part.ledger (state w.add.new.heap) w.add.new.ledger = search rules in
+          let ok : w.add.result ≡ Ok cell = mapped_ok _ w.add.result w.map_err.result w.map_err.ensures.cases cell w.in_ok-cell.was in
+          let add : Added cell (state c.loop-part.heap) (state w.add.new.heap) × Together o (state c.loop-part.heap) c.loop-part.ledger (state w.add.new.heap) w.add.new.ledger = MatchResult-at_ok _ _ cell ok w.add.ensures in
           let pushed : w.push.new.self ≡ c.loop-part.cells ++ cell ∷ [] = search rules in
           let next = more o c.loop-part.part cell _ _ (state c.args.heap.now) _ (state w.add.new.heap) c.args.ledger.now _ w.add.new.ledger (omega arith) inv.0 inv.1 inv.2 inv.3 pushed add in
           rw (w.cells-is, w.heap-is, w.ledger-is) (next.0 ∙ omega arith, next.1, next.2, next.3)

@@ -1,4 +1,4 @@
-use Rattle.std.proofs.Common.{◌≡◌, ℕ, ◌+◌, List, [], ◌∷◌, ◌++◌, vec_items, sym, subst, rules}
+use Rattle.std.proofs.Common.{◌≡◌, ℕ, ◌+◌, List, [], ◌∷◌, ◌++◌, vec_items, sym, ap, ◌∙◌, subst, rules}
 use Rattle.entry.proofs.Lists.{pointing_more}
 use Rattle.entry.proofs.Moves.{kept_then}
 use Rattle.entry.specs.Entries.{OnlyRoots, Pointing, Points}
@@ -14,7 +14,7 @@ loop-slot-preserved g c =
     let before = vec_items c.loop-slot.parts in
     let t = (state c.args.heap.now).graph.slots in
     let load : Points cells (state c.loop-slot.heap).graph.slots slot part × OnlyRoots (state c.loop-slot.heap) (state c.load_part.new.heap) = search rules in
-    let pushed : vec_items c.push.new.self ≡ before ++ part ∷ [] = search rules in (
+    let pushed : vec_items c.push_reserved.new.self ≡ before ++ part ∷ [] = c.push_reserved.ensures.items ∙ ap (λ (l : List ℕ). l ++ part ∷ []) c.reserve.ensures.items in (
       subst (Pointing cells t (slot + 1)) (sym pushed) (pointing_more cells t slot before part inv.0 (subst (λ (u : List ℕ). Points cells u slot part) inv.1.slots load.0)),
       kept_then inv.1 load.1,
     )

@@ -1,6 +1,6 @@
 use Rattle.std.proofs.Common.{◌≡◌, ℕ, List, get_or, set, sym, ap, ◌∙◌, set-set}
 use lib.Seq.{set-get_or}
-use Rattle.heap.proofs.Releases.{released}
+use Rattle.heap.specs.ReleaseLaws.{released}
 use Rattle.heap.specs.States.{State, state}
 use Rattle.heap_tests.proofs.tests.+nest.Goals as goal
 

@@ -1,5 +1,5 @@
 use Rattle.std.proofs.Common.{sym, ◌∙◌, arith}
-use Rattle.heap.proofs.Releases.{accepted, released}
+use Rattle.heap.specs.ReleaseLaws.{accepted, released}
 use Rattle.heap.specs.States.{state}
 use Rattle.trials.proofs.Tokens.{kept_none, kept_popped, may_release, open_in_other, release_shuts}
 use Rattle.trials.proofs.trial.Pair.give_back.Goals as goal

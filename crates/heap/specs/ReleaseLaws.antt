@@ -1,4 +1,4 @@
--- What follows from the relation of a release, for whoever knows how it ends. Assumes nothing.
+-- What follows from the relation of a release, for whoever knows how it ends. Nothing in this file has to be believed: it is checked proof.
 use Rattle.std.proofs.Common.{◌≡◌, None, Result, Ok, Err, refl, sym, ◌∙◌}
 use Rattle.std.specs.Result.{IsOk}
 use Rattle.heap.specs.Calls.{Release, release_cause, release_checks, with_hold}
