@@ -1,5 +1,5 @@
--- The line of the text at which entering it stopped.
-use Rattle.std.specs.Prelude.{◌≡◌, ℕ, ◌-◌, ◌≢◌, ◌⊎◌, List, [], Some, None, Option, slice_index_or}
+-- Where entering a text stopped: its line, or why it has none.
+use Rattle.std.specs.Prelude.{◌≡◌, ℕ, ◌-◌, ◌<◌, ◌≤◌, ◌⊎◌, List, [], length, Some, None, Option, slice_index_or}
 use Rattle.entry.specs.declared.error.Cause.{Cause}
 use Rattle.entry.specs.declared.error.Cause.TheVariants.{Refused as Turned, Lost as Astray, Memory as Short}
 use Rattle.entry.specs.declared.error.EntryError.{EntryError}
@@ -43,22 +43,29 @@ Blamed names ls (Unready refusal) = Unit {0}
 Blamed names ls Lost = Unit {0}
 Blamed names ls Memory = Unit {0}
 
--- A call was refused while something of the text was being entered.
-abbrev pub Placed : Stop → Type 0
-Placed stop = (refusal : Refusal) → stop.cause ≡ Turned refusal → stop.place ≢ Start
+-- Something of a drawing with so many parts and edits. Part 0 is none; where there are parts, its name is that of the first.
+abbrev pub IsOf : ℕ → ℕ → Place → Type 0
+IsOf parts edits Start = ⊥
+IsOf parts edits (Part part) = part ≤ parts
+IsOf parts edits (Reference part) = (1 ≤ part) × (part ≤ parts)
+IsOf parts edits (Edit i) = i < edits
+
+-- If a call was refused, something of the drawing was being entered.
+abbrev pub InDrawing : ℕ → ℕ → Stop → Type 0
+InDrawing parts edits stop = (refusal : Refusal) → stop.cause ≡ Turned refusal → IsOf parts edits stop.place
 
 module _ {L : Type 0} (o : Ops L) where
   -- Why the heap can't be given its 1,024 cells, if it can't.
   abbrev pub unready : State → L → Option Refusal
   unready s l = cause_of (size_checks (o.capacity l) s 1024)
 
-  -- A call that was refused while nothing of the text was being entered is the one that gives the heap its cells.
-  abbrev pub Halted : State → L → Stop → Type 0
-  Halted s l stop = (refusal : Refusal) → stop.cause ≡ Turned refusal → stop.place ≡ Start → unready s l ≡ Some refusal
+  -- If a call was refused, it is the one that gives the heap its cells, or something of the drawing was being entered.
+  abbrev pub Refusing : ℕ → ℕ → State → L → Stop → Type 0
+  Refusing parts edits s l stop = (refusal : Refusal) → stop.cause ≡ Turned refusal → ((stop.place ≡ Start) × (unready s l ≡ Some refusal)) ⊎ IsOf parts edits stop.place
 
-  -- A refusal is told without a line only where the heap can't be given its cells, or where the text has no line for what was being entered.
-  abbrev pub Unblamed : List Bytes → List Bytes → State → L → EntryError → Type 0
-  Unblamed names ls s l (Unready refusal) = (unready s l ≡ Some refusal) ⊎ ((place : Place) × (place ≢ Start) × LineOf names ls place None)
-  Unblamed names ls s l (Refused line refusal) = Unit {0}
-  Unblamed names ls s l Lost = Unit {0}
-  Unblamed names ls s l Memory = Unit {0}
+  -- A refusal is told without a line only where the heap can't be given its cells, or where something of the drawing has no line in the text.
+  abbrev pub Unblamed : List Bytes → ℕ → List Bytes → State → L → EntryError → Type 0
+  Unblamed names edits ls s l (Unready refusal) = (unready s l ≡ Some refusal) ⊎ ((place : Place) × IsOf (length names) edits place × LineOf names ls place None)
+  Unblamed names edits ls s l (Refused line refusal) = Unit {0}
+  Unblamed names edits ls s l Lost = Unit {0}
+  Unblamed names edits ls s l Memory = Unit {0}

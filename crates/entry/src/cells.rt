@@ -1,8 +1,7 @@
 //! The cells of a drawing's parts.
-ghost use Rattle.std.specs.Prelude.{◌≡◌, ◌<◌, ◌≤◌, [], ◌∷◌, ◌++◌, length, IfSome, MatchOption, OnOk};
+ghost use Rattle.std.specs.Prelude.{◌≡◌, ◌<◌, ◌≤◌, length, IfSome, MatchOption};
 ghost use Rattle.entry.specs.Entries.{cell_of};
 
-use std::alloc::{AllocError, AllocFailed, Global};
 use std::marker::Model;
 
 /// The cell of each part, in the order of the parts' numbers. There are at most as many as a heap can have.
@@ -22,13 +21,12 @@ impl Model for Cells {
 }
 
 impl Cells {
-    /// No cells yet.
-    pub(crate) fn new(memory: Global) -> Cells
-        ensures { result ≡ [] }
+    /// These cells.
+    pub(crate) fn from_vec(cells: Vec<u16>) -> Cells
+        requires { length cells.items ≤ 1024 }
+        ensures { result ≡ cells.items }
     {
-        Cells {
-            cells: Vec::new(memory),
-        }
+        Cells { cells }
     }
 
     /// How many parts there are, which is also the number of the last.
@@ -37,21 +35,6 @@ impl Cells {
         ensures few { length self.now ≤ 1024 }
     {
         self.cells.len() as u16
-    }
-
-    /// Takes memory for one more cell.
-    pub(crate) fn reserve(&mut self) -> Result<(), AllocError>
-        ensures { self.new ≡ self.old }
-    {
-        self.cells.reserve(1)
-    }
-
-    /// Gives the next part its cell.
-    pub(crate) fn push(&mut self, cell: u16) -> Result<(), AllocFailed<u16>>
-        requires { length self.old < 1024 }
-        ensures { OnOk result (self.new ≡ self.old ++ cell ∷ []) }
-    {
-        self.cells.push(cell)
     }
 
     /// The cell of a part; part 0 stands for an empty slot.

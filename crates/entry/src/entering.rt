@@ -1,7 +1,7 @@
 //! Entering a drawing.
-ghost use Rattle.std.specs.Prelude.{◌≡◌, ◌≤◌, length, replicate, Some, IfOk, IfErr, MatchResult, OnOk};
+ghost use Rattle.std.specs.Prelude.{◌≡◌, ℕ, ◌*◌, ◌≤◌, length, replicate, Some, IfOk, IfErr, MatchResult, OnOk};
 ghost use Rattle.entry.specs.Entries.{Closed, Drawn, Entering, Forgotten, Grown, HeldBy, HoldsTop, OnlyRoots, Own, Slotted, Together, edited, referred};
-ghost use Rattle.entry.specs.Located.{Blamed, Halted, Placed, Unblamed, unready};
+ghost use Rattle.entry.specs.Located.{Blamed, InDrawing, Refusing, Unblamed, unready};
 ghost use Rattle.heap.specs.Calls.{root};
 ghost use Rattle.heap.specs.Keeps.{Held};
 ghost use Rattle.heap.specs.States.{state};
@@ -33,7 +33,7 @@ pub struct Entered {
 
 // Gives the heap its cells, and the index its topmost node.
 fn prepare<L: Ledger>(heap: &mut Heap, ledger: &mut L) -> Result<(), Refusal>
-    ensures { MatchResult result (λ _. (((state heap.new).graph.holds ≡ replicate 16 0) × Held L.Ledger.ops (state heap.new) ledger.new)) (λ refusal. unready L.Ledger.ops (state heap.old) ledger.old ≡ Some refusal) }
+    ensures { MatchResult result (λ _. ((state heap.new).graph.holds ≡ replicate 16 0) × Held L.Ledger.ops (state heap.new) ledger.new) (λ refusal. unready L.Ledger.ops (state heap.old) ledger.old ≡ Some refusal) }
 {
     heap.size(ledger, CELLS)?;
     let _top = heap.new_cell(ledger, TOP)?;
@@ -48,17 +48,17 @@ fn add_parts<L: Ledger>(
     count: u16,
 ) -> Result<Cells, Stop>
     requires { count ≤ 1024 }
-    ensures { MatchResult result (λ cells. (length cells ≡ count) × Own cells (state heap.new) × Grown (state heap.old) (state heap.new) × Together L.Ledger.ops (state heap.old) ledger.old (state heap.new) ledger.new) Placed }
+    ensures { MatchResult result (λ cells. (length cells ≡ count) × Own cells (state heap.new) × Grown (state heap.old) (state heap.new) × Together L.Ledger.ops (state heap.old) ledger.old (state heap.new) ledger.new) (λ stop. (edits : ℕ) → InDrawing count edits stop) }
 {
-    let mut cells = Cells::new(memory);
+    let mut cells = Vec::new(memory);
     for part in 1..=count {
         let place = Place::Part(part);
-        // Memory first, so that a part for which there is none is not in the heap either.
-        cells.reserve()?;
+        // Memory first: where there is none, the part isn't added to the heap.
+        cells.reserve(1)?;
         let cell = add(heap, ledger, part).map_err(|refusal| Cause::Refused(refusal).at(place))?;
-        cells.push(cell)?;
+        cells.push_reserved(cell);
     }
-    Ok(cells)
+    Ok(Cells::from_vec(cells))
 }
 
 // A store for each reference.
@@ -68,8 +68,9 @@ fn put_references<L: Ledger>(
     cells: &Cells,
     slots: &[u16],
 ) -> Result<(), Stop>
-    requires { length slots.now ≤ 4096 }
-    ensures { MatchResult result (λ _. (Slotted (referred cells.now 0 slots.now (state heap.old).graph.slots) (state heap.old) (state heap.new) × Together L.Ledger.ops (state heap.old) ledger.old (state heap.new) ledger.new)) Placed }
+    requires few { length slots.now ≤ 4096 }
+    requires each { length slots.now ≡ 4 * length cells.now }
+    ensures { MatchResult result (λ _. Slotted (referred cells.now 0 slots.now (state heap.old).graph.slots) (state heap.old) (state heap.new) × Together L.Ledger.ops (state heap.old) ledger.old (state heap.new) ledger.new) (λ stop. (edits : ℕ) → InDrawing (length cells.now) edits stop) }
 {
     for (i, content) in slots.iter().enumerate() {
         if *content == 0 {
@@ -89,7 +90,7 @@ fn put_edits<L: Ledger>(
     cells: &Cells,
     edits: &[Edit],
 ) -> Result<(), Stop>
-    ensures { MatchResult result (λ _. (Slotted (edited cells.now edits.now (state heap.old).graph.slots) (state heap.old) (state heap.new) × Together L.Ledger.ops (state heap.old) ledger.old (state heap.new) ledger.new)) Placed }
+    ensures { MatchResult result (λ _. Slotted (edited cells.now edits.now (state heap.old).graph.slots) (state heap.old) (state heap.new) × Together L.Ledger.ops (state heap.old) ledger.old (state heap.new) ledger.new) (InDrawing (length cells.now) (length edits.now)) }
 {
     for (i, edit) in edits.iter().enumerate() {
         let place = Place::Edit(i);
@@ -100,7 +101,7 @@ fn put_edits<L: Ledger>(
 
 // Takes every part out of the index, so that only the drawing's own references are left to count.
 fn forget_all<L: Ledger>(heap: &mut Heap, ledger: &mut L, cells: &Cells) -> Result<(), Stop>
-    ensures { MatchResult result (λ _. (Forgotten cells.now (length cells.now) (state heap.old) (state heap.new) × Together L.Ledger.ops (state heap.old) ledger.old (state heap.new) ledger.new)) Placed }
+    ensures { MatchResult result (λ _. Forgotten cells.now (length cells.now) (state heap.old) (state heap.new) × Together L.Ledger.ops (state heap.old) ledger.old (state heap.new) ledger.new) (λ stop. (edits : ℕ) → InDrawing (length cells.now) edits stop) }
 {
     for part in 1..=cells.len() {
         let place = Place::Part(part);
@@ -141,7 +142,7 @@ fn hold_top<L: Ledger>(heap: &mut Heap, ledger: &L) -> Result<Option<Token>, Ref
 
 // Has the top part held in place of all that the index keeps within reach.
 fn close<L: Ledger>(heap: &mut Heap, ledger: &mut L, cells: &Cells) -> Result<Option<Token>, Stop>
-    ensures { MatchResult result (λ token. Closed cells.now token (state heap.old) (state heap.new) × Together L.Ledger.ops (state heap.old) ledger.old (state heap.new) ledger.new) Placed }
+    ensures { MatchResult result (λ token. Closed cells.now token (state heap.old) (state heap.new) × Together L.Ledger.ops (state heap.old) ledger.old (state heap.new) ledger.new) (λ stop. (edits : ℕ) → InDrawing (length cells.now) edits stop) }
 {
     // The index has to lead there one last time. Part 0 is none.
     let top = cells.len().min(1);
@@ -158,7 +159,7 @@ fn draw<L: Ledger>(
     drawing: &Drawing,
     edits: &[Edit],
 ) -> Result<Cells, Stop>
-    ensures { MatchResult result (λ cells. Drawn L.Ledger.ops drawing.now.slots.items edits.now cells (state heap.new) ledger.new) (Halted L.Ledger.ops (state heap.old) ledger.old) }
+    ensures { MatchResult result (λ cells. Drawn L.Ledger.ops drawing.now.slots.items edits.now cells (state heap.new) ledger.new) (Refusing L.Ledger.ops (length (known drawing.now)) (length edits.now) (state heap.old) ledger.old) }
 {
     prepare(heap, ledger).map_err(|refusal| Cause::Refused(refusal).at(Place::Start))?;
     let cells = add_parts(memory, heap, ledger, drawing.names().len() as u16)?;
@@ -175,7 +176,7 @@ fn enter_all<L: Ledger>(
     drawing: &Drawing,
     edits: &[Edit],
 ) -> Result<Entered, Stop>
-    ensures { MatchResult result (λ e. Entering L.Ledger.ops drawing.now.slots.items edits.now e (state heap.new) ledger.new) (Halted L.Ledger.ops (state heap.old) ledger.old) }
+    ensures { MatchResult result (λ e. Entering L.Ledger.ops drawing.now.slots.items edits.now e (state heap.new) ledger.new) (Refusing L.Ledger.ops (length (known drawing.now)) (length edits.now) (state heap.old) ledger.old) }
 {
     let cells = draw(memory, heap, ledger, drawing, edits)?;
     let slots = load_all(memory, heap, ledger, &cells)?;
@@ -199,7 +200,7 @@ pub fn enter<L: Ledger>(
 ) -> Result<Entered, EntryError>
     ensures entered { IfOk result (λ e. Entering L.Ledger.ops drawing.now.slots.items edits.now e (state heap.new) ledger.new) }
     ensures blamed { IfErr result (Blamed (known drawing.now) (lines text.now)) }
-    ensures unblamed { IfErr result (Unblamed L.Ledger.ops (known drawing.now) (lines text.now) (state heap.old) ledger.old) }
+    ensures unblamed { IfErr result (Unblamed L.Ledger.ops (known drawing.now) (length edits.now) (lines text.now) (state heap.old) ledger.old) }
 {
     // No `map_err`: its closure would have to state again what `locate` promises.
     match enter_all(memory, heap, ledger, drawing, edits) {

@@ -5,7 +5,7 @@ ghost use Rattle.entry.specs.declared.error.Cause.TheVariants.{Memory as Short};
 ghost use Rattle.entry.specs.declared.error.Place.TheVariants.{Start};
 
 use heap::Refusal;
-use std::alloc::{AllocError, AllocFailed};
+use std::alloc::AllocError;
 use std::error::Error;
 use std::fmt;
 
@@ -52,14 +52,6 @@ impl From<AllocError> for Stop {
     }
 }
 
-impl<T: Drop> From<AllocFailed<T>> for Stop {
-    ghost from_gives = { λ _ r. (r.place ≡ Start) × (r.cause ≡ Short) };
-
-    fn from(_: AllocFailed<T>) -> Stop {
-        Cause::Memory.at(Place::Start)
-    }
-}
-
 impl Cause {
     pub(crate) fn at(self, place: Place) -> Stop
         ensures { (result.place ≡ place) × (result.cause ≡ self) }
@@ -73,7 +65,7 @@ impl Cause {
 pub enum EntryError {
     /// A call of the heap was refused, with the line of the text that caused it.
     Refused { line: usize, refusal: Refusal },
-    /// A call was refused before the first part.
+    /// A call was refused before the first part, or the text has no line for what was being entered.
     Unready(Refusal),
     /// The index led to another cell than the part's, which it never does.
     Lost,

@@ -1,7 +1,7 @@
 //! What the parts point to, by load.
-ghost use Rattle.std.specs.Prelude.{◌≡◌, ◌*◌, ◌<◌, ◌≤◌, length, IfOk, MatchResult};
+ghost use Rattle.std.specs.Prelude.{◌≡◌, ℕ, ◌*◌, ◌<◌, ◌≤◌, length, IfOk, MatchResult};
 ghost use Rattle.entry.specs.Entries.{OnlyRoots, Pointing, Points, cell_of};
-ghost use Rattle.entry.specs.Located.{Placed};
+ghost use Rattle.entry.specs.Located.{InDrawing};
 ghost use Rattle.heap.specs.States.{state};
 
 use crate::cells::Cells;
@@ -28,7 +28,7 @@ pub(crate) fn load_all<L: Ledger>(
     ledger: &L,
     cells: &Cells,
 ) -> Result<Vec<u16>, Stop>
-    ensures { MatchResult result (λ parts. Pointing cells.now (state heap.old).graph.slots (4 * length cells.now) parts.items × OnlyRoots (state heap.old) (state heap.new)) Placed }
+    ensures { MatchResult result (λ parts. Pointing cells.now (state heap.old).graph.slots (4 * length cells.now) parts.items × OnlyRoots (state heap.old) (state heap.new)) (λ stop. (edits : ℕ) → InDrawing (length cells.now) edits stop) }
 {
     let mut parts = Vec::new(memory);
     for slot in 0..4 * cells.len() {

@@ -43,6 +43,7 @@ pub(crate) fn change<K: Count, F: FnOnce(K) -> K>(rows: &mut [K::Row], c: u16, s
     }
 }
 
+// One line each, `lower` and `raise`, so that `note` is proved without an answer, and an edit of it refused by its contract.
 pub(crate) fn lower<K: Count>(rows: &mut [K::Row], c: u16)
     ensures { counts_of K.Count.reads rows.new ≡ less c (counts_of K.Count.reads rows.old) }
 {

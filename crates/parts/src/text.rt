@@ -18,7 +18,7 @@ fn is_blank(byte: &u8) -> bool
     matches!(byte, b' ' | b'\t' | b'\r')
 }
 
-// The first word of a text and what comes after it, if there is a word.
+// The first word of a line, or of what is left of one, and what comes after it, if there is a word.
 fn next_word(text: &[u8]) -> Option<(&[u8], &[u8])>
     ensures { MatchOption result (words text.now ≡ []) (λ p. (words text.now ≡ p.0.now ∷ words p.1.now) × (length p.1.now < length text.now)) }
 {
@@ -34,7 +34,7 @@ pub(crate) fn split_words<'a>(heap: Global, line: &'a [u8]) -> Result<Vec<&'a [u
 {
     let mut found = Vec::new(heap);
     let mut rest = line;
-    // Word by word, and no `split`: that makes a piece of each blank, and costs an empty line more than all else does.
+    // No `split`: it makes a piece of each blank, and on an empty line costs more than the rest of the reading.
     while let Some((word, after)) = next_word(rest) {
         found.push(word)?;
         rest = after;

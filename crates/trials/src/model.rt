@@ -6,7 +6,7 @@ use std::alloc::{AllocError, Global};
 /// What a call comes to: the cell that it gives out, if it gives one, or why it is refused.
 pub type Answer = Result<Option<u16>, Refusal>;
 
-/// The number of a cause by the rules, with which the heap's own is compared.
+/// The number of a cause by the rules in docs/HEAP.md, with which the heap's own is compared.
 pub fn number(cause: Refusal) -> u8 {
     match cause {
         Refusal::Cells => 1,
