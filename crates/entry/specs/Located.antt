@@ -27,7 +27,7 @@ LineOf names ls (Part part) n = Finds Mention (name_of names part) ls 0 n
 LineOf names ls (Reference part) n = Finds Description (name_of names part) ls 0 n
 LineOf names ls (Edit i) n = Finds AnEdit [] ls i n
 
--- The error of the text: a refusal with its line, or without where nothing of the text had been entered.
+-- The error of the text: a refusal with the line of what was being entered, or without where there is none. Where there is no memory to look for it, that is the error.
 abbrev pub Located : List Bytes → List Bytes → Place → Cause → EntryError → Type 0
 Located names ls place (Turned r) (Refused line refusal) = (refusal ≡ r) × LineOf names ls place (Some line)
 Located names ls place (Turned r) (Unready refusal) = (refusal ≡ r) × LineOf names ls place None
@@ -43,7 +43,7 @@ Blamed names ls (Unready refusal) = Unit {0}
 Blamed names ls Lost = Unit {0}
 Blamed names ls Memory = Unit {0}
 
--- Something of a drawing with so many parts and edits. Part 0 is none; where there are parts, its name is that of the first.
+-- Something of a drawing with so many parts and edits; and part 0, at which closing may stop. Where there are parts, its name is that of the first, and where there are none, no line mentions it.
 abbrev pub IsOf : ℕ → ℕ → Place → Type 0
 IsOf parts edits Start = ⊥
 IsOf parts edits (Part part) = part ≤ parts

@@ -9,7 +9,7 @@ use Rattle.heap.specs.States.{State, state}
 use Rattle.entry.proofs.entering.add_parts.Goals as goal
 use Rattle.entry.proofs.entering.add_parts.Goals.{else-loop-part-test, then-loop-part-test+in_ok-reserve+in_ok-cell+else-part-count}
 
--- What `map_err` hands on is what it was given.
+-- A success that `map_err` hands on is what it was given.
 mapped_ok : {X E F : Type 0} (post : E → F → Type 0) (r : Result X E) (s : Result X F) → MatchResult r (λ v. s ≡ Ok v) (λ e. IsErrAnd s (post e)) → (x : X) → s ≡ Ok x → r ≡ Ok x
 mapped_ok post (Ok v) s h x is = cc
 mapped_ok post (Err e) s h x is = let p = err_from_is_err_and s h in cc p.1
